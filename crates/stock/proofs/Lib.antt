@@ -1,0 +1,2 @@
+mod SameCount
+mod SameLot

@@ -1,0 +1,9 @@
+pub mod Arithmetic
+pub mod Count
+pub mod Decline
+pub mod Fault
+pub mod Kind
+pub mod Lot
+pub mod LotShape
+pub mod Meaning
+pub mod Store

@@ -1,0 +1,8 @@
+// Stock values, what an access makes of them, hardware transactions by their meaning, and words on file.
+pub mod access;
+pub mod count;
+pub mod decline;
+pub mod fault;
+pub mod kind;
+pub mod lot;
+pub mod value;
