@@ -6,7 +6,7 @@
 --   from         the accesses from place i on, over the words as they were at first
 --   meaning      the whole transaction
 use Prim.Native.Nat.{ℕ, _+_}
-use mathlib.Core.Bool.{Bool, cond}
+use mathlib.Core.Bool.{cond}
 use mathlib.Core.List.{List, [], _∷_}
 use lib.ListN.{set}
 use Rattle.std.specs.Options.{valueOr}
@@ -16,7 +16,8 @@ use Rattle.std.specs.declared.result.Result.the-variants.{Ok, Err}
 use Rattle.stock.specs.declared.access.Access.{Access}
 use Rattle.stock.specs.declared.fault.AccessFault.{AccessFault}
 use Rattle.stock.specs.declared.fault.StockFault.{StockFault}
-use Rattle.stock.specs.Arithmetic.{Arithmetic, computed, writing}
+use Rattle.stock.specs.Access.{writing-access}
+use Rattle.stock.specs.Arithmetic.{Arithmetic, computed}
 use Rattle.stock.specs.Kind.{kind-of}
 use Rattle.stock.specs.Store.{Store, put}
 
@@ -26,9 +27,6 @@ pub record Meaning (V : Type 0) : Type 0 where
   pub result : Result (Unit {0}) AccessFault
 
 module _ {V : Type 0} where
-  abbrev pub writing-access : Access V → Bool
-  writing-access a = writing (kind-of (a .kind))
-
   abbrev pub answer : Arithmetic V → Store V → Access V → Result V StockFault
   answer A F a = computed A (kind-of (a .kind)) (valueOr (F (a .word)) (a .value)) (a .value)
 
