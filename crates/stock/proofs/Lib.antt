@@ -1,9 +1,9 @@
-mod Admitted
+pub mod Admitted
 mod CheckSteps
 pub mod Course
 pub mod DropRead
 pub mod Passed
-mod Restoring
+pub mod Restoring
 mod SameCount
 mod SameLot
 pub mod Stores

@@ -40,3 +40,18 @@ module _ {V : Type 0} where
 
   pub nth-set : (xs : List V) (b : ℕ) (v : V) → b < length xs → nth (set xs b v) ≡ put (nth xs) b (Some v)
   nth-set xs b v h = same-store _ _ (λ n. set-at xs b v n h)
+
+  pub nth-set-same : (xs : List V) (b : ℕ) (v : V) → b < length xs → nth (set xs b v) b ≡ Some v
+  nth-set-same [] b v h = absurd (omega arith)
+  nth-set-same (x ∷ xs) zero v h = refl
+  nth-set-same (x ∷ xs) (suc b) v h = nth-set-same xs b v (omega arith)
+
+  pub nth-set-other : (xs : List V) (k b : ℕ) (v : V) → (b ≡ k → ⊥) → nth (set xs k v) b ≡ nth xs b
+  nth-set-other [] k b v h = refl
+  nth-set-other (x ∷ xs) zero zero v h = absurd (h refl)
+  nth-set-other (x ∷ xs) zero (suc b) v h = refl
+  nth-set-other (x ∷ xs) (suc k) zero v h = refl
+  nth-set-other (x ∷ xs) (suc k) (suc b) v h = nth-set-other xs k b v (λ e. h (ap suc e))
+
+  pub nth-read : (xs : List V) (i : ℕ) (v : V) → nth xs i ≡ Some v → v ≡ getD xs i v
+  nth-read xs i v e = sym (ap (λ (o : Option V). valueOr o v) e) ∙ nth-valueOr xs i v

@@ -1,0 +1,5 @@
+mod Asides
+mod Folding
+mod Laying
+mod NumberSteps
+mod RunFit

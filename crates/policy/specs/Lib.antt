@@ -1,0 +1,6 @@
+pub mod Gates
+pub mod Maps
+pub mod Orec
+pub mod Packing
+pub mod Precedence
+pub mod Priority
