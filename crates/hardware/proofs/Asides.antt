@@ -17,11 +17,11 @@ use Rattle.stock.specs.declared.access.Access.{Access}
 use Rattle.stock.specs.declared.fault.StockFault.{StockFault}
 use Rattle.stock.specs.Access.{writing-access}
 use Rattle.stock.specs.Arithmetic.{Arithmetic, computed}
-use Rattle.stock.specs.Check.{Inside}
+use Rattle.meaning.specs.Check.{Inside}
 use Rattle.stock.specs.Kind.{kind-of}
-use Rattle.stock.specs.Meaning.{answer}
+use Rattle.meaning.specs.Meaning.{answer}
 use Rattle.stock.specs.declared.kind.AccessKind.{AccessKind}
-use Rattle.stock.specs.Store.{nth}
+use Rattle.meaning.specs.Store.{nth}
 use Rattle.hardware.specs.Limits.{place-from}
 use Rattle.hardware.specs.Overlay.{laid, seen-at, listed, with-word}
 use Rattle.hardware.proofs.Folding.{aside, all-inside}

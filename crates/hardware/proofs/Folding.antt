@@ -14,8 +14,8 @@ use Rattle.std.proofs.shelf.Sums.{folded-more}
 use Rattle.std.proofs.shelf.Tests.{cond-both}
 use Rattle.stock.specs.declared.access.Access.{Access}
 use Rattle.stock.specs.Access.{writing-access}
-use Rattle.stock.specs.Check.{Inside}
-use Rattle.stock.specs.Undo.{one, writes-in}
+use Rattle.meaning.specs.Check.{Inside}
+use Rattle.meaning.specs.Undo.{one, writes-in}
 use Rattle.hardware.specs.Limits.{write-count, with-shape, written-words, writing-shape, place-from}
 use Rattle.hardware.specs.Overlay.{with-word}
 use Rattle.hardware.specs.Path.{shapes}

@@ -12,8 +12,8 @@ use Rattle.std.specs.declared.option.Option.{Option}
 use Rattle.std.specs.declared.option.Option.the-variants.{Some, None}
 use Rattle.std.proofs.shelf.Lists.{take-more, take-more-set, set-set, set-comm, length-set, length-take-le}
 use Rattle.std.proofs.shelf.Tests.{cases-eq, eq-eqb, ne-eqb}
-use Rattle.stock.specs.Store.{nth}
-use Rattle.stock.proofs.Stores.{nth-set-same, nth-set-other}
+use Rattle.meaning.specs.Store.{nth}
+use Rattle.meaning.proofs.Stores.{nth-set-same, nth-set-other}
 use Rattle.hardware.specs.Limits.{place-from}
 use Rattle.hardware.specs.Overlay.{laid, seen-at, placed, listed}
 

@@ -5,13 +5,13 @@ use mathlib.Core.List.{List}
 use Rattle.std.specs.declared.result.Result.{Result}
 use Rattle.std.specs.declared.result.Result.the-variants.{Ok, Err}
 use Rattle.stock.specs.declared.access.Access.{Access}
-use Rattle.stock.specs.declared.decline.Decline.{Decline}
-use Rattle.stock.specs.declared.decline.Decline.the-variants.{Stock}
+use Rattle.meaning.specs.declared.decline.Decline.{Decline}
+use Rattle.meaning.specs.declared.decline.Decline.the-variants.{Stock}
 use Rattle.stock.specs.declared.fault.AccessFault.{AccessFault}
 use Rattle.stock.specs.Arithmetic.{Arithmetic}
-use Rattle.stock.specs.Meaning.{meaning}
-use Rattle.stock.specs.Perform.{as-decline}
-use Rattle.stock.specs.Store.{Store}
+use Rattle.meaning.specs.Meaning.{meaning}
+use Rattle.meaning.specs.Perform.{as-decline}
+use Rattle.meaning.specs.Store.{Store}
 use Rattle.hardware.specs.Path.{ran}
 
 module _ {V : Type 0} (A : Arithmetic V) (xs : List (Access V)) (F : Store V) (ys : List V) where

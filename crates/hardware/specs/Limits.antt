@@ -14,7 +14,7 @@ use Rattle.std.specs.declared.option.Option.{Option}
 use Rattle.std.specs.declared.option.Option.the-variants.{Some, None}
 use Rattle.stock.specs.Access.{writing}
 use Rattle.stock.specs.Kind.{kind-of}
-use Rattle.stock.specs.Undo.{one}
+use Rattle.meaning.specs.Undo.{one}
 
 abbrev pub writing-shape : ℕ × ℕ → Bool
 writing-shape x = writing (kind-of (x .0))

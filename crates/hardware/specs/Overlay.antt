@@ -14,7 +14,7 @@ use Rattle.std.specs.declared.result.Result.{Result}
 use Rattle.std.specs.declared.result.Result.the-variants.{Ok, Err}
 use Rattle.stock.specs.declared.access.Access.{Access}
 use Rattle.stock.specs.declared.fault.AccessFault.{AccessFault}
-use Rattle.stock.specs.Store.{nth}
+use Rattle.meaning.specs.Store.{nth}
 use Rattle.hardware.specs.Limits.{with-shape}
 
 abbrev pub listed : Option ℕ → ℕ → List ℕ → List ℕ

@@ -8,11 +8,11 @@ use Prim.Native.Nat.{ℕ, _<_}
 use Rattle.std.specs.shelf.Lists.{All}
 use Rattle.std.specs.declared.result.Result.the-variants.{Err}
 use Rattle.stock.specs.declared.access.Access.{Access}
-use Rattle.stock.specs.declared.decline.Decline.the-variants.{Unfit}
+use Rattle.meaning.specs.declared.decline.Decline.the-variants.{Unfit}
 use Rattle.stock.specs.Arithmetic.{Arithmetic}
-use Rattle.stock.specs.Meaning.{meaning}
-use Rattle.stock.specs.Perform.{Performed, concluded}
-use Rattle.stock.specs.Store.{Store}
+use Rattle.meaning.specs.Meaning.{meaning}
+use Rattle.meaning.specs.Perform.{Performed, concluded}
+use Rattle.meaning.specs.Store.{Store}
 
 abbrev pub Known : List (ℕ × ℕ) → Type 0
 Known s = All (λ x. (x .0 < 4) × (x .1 < 4096)) s

@@ -8,19 +8,19 @@ ghost use Rattle.std.specs.Vec.{made};
 ghost use Rattle.std.specs.declared.option.Option.the-variants.{Some};
 ghost use Rattle.stock.specs.Access.{writing-access};
 ghost use Rattle.stock.specs.Arithmetic.{arithmetic-of};
-ghost use Rattle.stock.specs.Meaning.{answer};
-ghost use Rattle.stock.specs.Step.{ended, words-after, answers-after};
-ghost use Rattle.stock.specs.Store.{nth};
+ghost use Rattle.meaning.specs.Meaning.{answer};
+ghost use Rattle.meaning.specs.Step.{ended, words-after, answers-after};
+ghost use Rattle.meaning.specs.Store.{nth};
 ghost use Rattle.hardware.specs.Limits.{place-from};
 ghost use Rattle.hardware.specs.Overlay.{laid, seen-at, placed, listed, with-word, finished};
 use crate::places::place_of;
 use stock::access::Access;
-use stock::check::is_writing;
+use meaning::check::is_writing;
 use stock::compute::compute;
 use stock::fault::AccessFault;
 use stock::kind::AccessKind;
-use stock::slots::load;
-use stock::slots::store;
+use meaning::slots::load;
+use meaning::slots::store;
 use stock::value::Stock;
 
 // The value of a word as it would be.

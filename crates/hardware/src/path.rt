@@ -5,11 +5,11 @@ ghost use mathlib.Core.List.{List};
 ghost use Prim.Native.Nat.{ℕ, _≤_};
 ghost use lib.ListN.{length};
 ghost use Rattle.stock.specs.Arithmetic.{arithmetic-of};
-ghost use Rattle.stock.specs.Check.{Ready};
-ghost use Rattle.stock.specs.Store.{nth};
+ghost use Rattle.meaning.specs.Check.{Ready};
+ghost use Rattle.meaning.specs.Store.{nth};
 ghost use Rattle.hardware.specs.Path.{shapes, Known, ran};
 use stock::access::Access;
-use stock::decline::Decline;
+use meaning::decline::Decline;
 use stock::value::Stock;
 
 pub trait HardwarePath {

@@ -5,10 +5,10 @@ ghost use Rattle.hardware.specs.Path.{shapes};
 ghost use Rattle.hardware.specs.Limits.{write-count};
 use crate::path::HardwarePath;
 use stock::access::Access;
-use stock::check::is_writing;
-use stock::decline::Decline;
-use stock::decline::DeclineFromAccess;
-use stock::undo::run_saving;
+use meaning::check::is_writing;
+use meaning::decline::Decline;
+use meaning::decline::DeclineFromAccess;
+use meaning::undo::run_saving;
 use stock::value::Stock;
 
 // As many saved values as there are work values.

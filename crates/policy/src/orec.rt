@@ -2,7 +2,7 @@
 ghost use mathlib.Core.Path.{_≡_};
 ghost use Rattle.policy.specs.Orec.{mode-number, new-record, readers-fit, well-formed};
 
-#[derive(Clone, Copy, PartialEq, Eq, Debug)]
+#[derive(Clone, Copy, PartialEq, Eq)]
 pub enum Mode {
     Free,
     Read,
@@ -27,7 +27,7 @@ pub const LAST_THREAD: u8 = 15;
 
 pub const LAST_VERSION: u32 = 1_000_000;
 
-#[derive(Clone, Copy, PartialEq, Eq, Debug)]
+#[derive(Clone, Copy, PartialEq, Eq)]
 pub struct OwnershipRecord {
     pub mode: Mode,
     pub readers: u8,

@@ -21,18 +21,12 @@ fn answers<G: Gate>(gate: &G, under_way: usize) -> [bool; 6] {
 
 #[test]
 fn by_record() -> Result<(), Fail> {
-    check_eq(
-        answers(&ByRecord, 0),
-        [true, true, true, false, false, false],
-    )?;
-    check_eq(
-        answers(&ByRecord, 1),
-        [true, true, true, false, false, false],
-    )
+    check(answers(&ByRecord, 0) == [true, true, true, false, false, false])?;
+    check(answers(&ByRecord, 1) == [true, true, true, false, false, false])
 }
 
 #[test]
 fn by_counter() -> Result<(), Fail> {
-    check_eq(answers(&ByCounter, 0), [true; 6])?;
-    check_eq(answers(&ByCounter, 1), [false; 6])
+    check(answers(&ByCounter, 0) == [true; 6])?;
+    check(answers(&ByCounter, 1) == [false; 6])
 }

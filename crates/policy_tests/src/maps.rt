@@ -19,17 +19,17 @@ fn at_edges<M: OrecMap>(map: &M) -> [usize; 4] {
 
 #[test]
 fn remainder() -> Result<(), Fail> {
-    check_eq(at_edges(&Remainder), [0, 63, 0, 63])
+    check(at_edges(&Remainder) == [0, 63, 0, 63])
 }
 
 #[test]
 fn quotient() -> Result<(), Fail> {
-    check_eq(at_edges(&Quotient), [0, 0, 1, 63])
+    check(at_edges(&Quotient) == [0, 0, 1, 63])
 }
 
 #[test]
 fn scatter() -> Result<(), Fail> {
-    check_eq(Scatter.orec_of(1), 39)?;
-    check_eq(Scatter.orec_of(2), 15)?;
-    check_eq(at_edges(&Scatter), [0, 59, 35, 54])
+    check(Scatter.orec_of(1) == 39)?;
+    check(Scatter.orec_of(2) == 15)?;
+    check(at_edges(&Scatter) == [0, 59, 35, 54])
 }

@@ -2,7 +2,6 @@
 use policy::orec::LAST_VERSION;
 use policy::orec::Mode;
 use policy::orec::OwnershipRecord;
-use policy::orec::OwnershipRecordDebug;
 use policy::orec::OwnershipRecordPartialEq;
 use std::test::*;
 
@@ -27,36 +26,36 @@ fn written(version: u32) -> OwnershipRecord {
 #[test]
 fn read_record() -> Result<(), Fail> {
     check(read_by_two().pack() == 2_298_889)?;
-    check_eq(OwnershipRecord::unpack(2_298_889), Some(read_by_two()))
+    check(OwnershipRecord::unpack(2_298_889) == Some(read_by_two()))
 }
 
 #[test]
 fn write_record() -> Result<(), Fail> {
     check(written(35).pack() == 2_294_786)?;
-    check_eq(OwnershipRecord::unpack(2_294_786), Some(written(35)))
+    check(OwnershipRecord::unpack(2_294_786) == Some(written(35)))
 }
 
 #[test]
 fn new_record() -> Result<(), Fail> {
     check(OwnershipRecord::new().pack() == 0)?;
-    check_eq(OwnershipRecord::unpack(0), Some(OwnershipRecord::new()))
+    check(OwnershipRecord::unpack(0) == Some(OwnershipRecord::new()))
 }
 
 #[test]
 fn numbers_of_no_record() -> Result<(), Fail> {
-    check_eq(OwnershipRecord::unpack(3), None).note("no mode has the number 3")?;
-    check_eq(OwnershipRecord::unpack(4), None).note("a free record has no reader")?;
-    check_eq(OwnershipRecord::unpack(69), None).note("17 readers")
+    check(OwnershipRecord::unpack(3) == None).note("no mode has the number 3")?;
+    check(OwnershipRecord::unpack(4) == None).note("a free record has no reader")?;
+    check(OwnershipRecord::unpack(69) == None).note("17 readers")
 }
 
 #[test]
 fn largest_version() -> Result<(), Fail> {
     let last = written(LAST_VERSION);
     check(last.is_well_formed())?;
-    check_eq(OwnershipRecord::unpack(last.pack()), Some(last))?;
+    check(OwnershipRecord::unpack(last.pack()) == Some(last))?;
     let past = written(LAST_VERSION + 1);
     check(!past.is_well_formed())?;
-    check_eq(OwnershipRecord::unpack(past.pack()), None)
+    check(OwnershipRecord::unpack(past.pack()) == None)
 }
 
 #[test]

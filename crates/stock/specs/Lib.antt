@@ -1,14 +1,7 @@
 pub mod Access
 pub mod Arithmetic
-pub mod Check
 pub mod Count
-pub mod Decline
 pub mod Fault
 pub mod Kind
 pub mod Lot
 pub mod LotShape
-pub mod Meaning
-pub mod Perform
-pub mod Step
-pub mod Undo
-pub mod Store

@@ -3,7 +3,7 @@ ghost use Prim.Native.Nat.{_≤_};
 
 pub mod arithmetic;
 
-#[derive(Clone, Copy, PartialEq, Eq, Debug)]
+#[derive(Clone, Copy, PartialEq, Eq)]
 pub struct Count {
     value: u32,
     ghost within: { value ≤ 999999 },

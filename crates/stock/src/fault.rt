@@ -2,7 +2,7 @@
 ghost use mathlib.Core.Path.{_≡_};
 ghost use Rattle.stock.specs.Fault.{fault-number, alone};
 
-#[derive(Clone, Copy, PartialEq, Eq, Debug)]
+#[derive(Clone, Copy, PartialEq, Eq)]
 pub enum StockFault {
     Short,
     Over,
@@ -22,7 +22,7 @@ impl StockFault {
 }
 
 // The stock fault whole, with the place of its access.
-#[derive(Clone, Copy, PartialEq, Eq, Debug)]
+#[derive(Clone, Copy, PartialEq, Eq)]
 pub struct AccessFault {
     pub place: usize,
     pub fault: StockFault,

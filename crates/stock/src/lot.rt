@@ -5,7 +5,7 @@ ghost use Rattle.stock.specs.LotShape.{lot-sound};
 
 pub mod arithmetic;
 
-#[derive(Clone, Copy, PartialEq, Eq, Debug)]
+#[derive(Clone, Copy, PartialEq, Eq)]
 pub struct Lot {
     batch: u32,
     count: u32,

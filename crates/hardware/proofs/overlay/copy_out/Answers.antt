@@ -2,7 +2,7 @@ use native.Mathlib.Omega.{arith}
 use mathlib.Core.Path.{_≡_, sym, _∙_}
 use Prim.Native.Nat.{_-_}
 use Rattle.std.specs.Options.{valueOr}
-use Rattle.stock.proofs.Stores.{nth-read}
+use Rattle.meaning.proofs.Stores.{nth-read}
 use Rattle.hardware.proofs.Laying.{laid-less}
 use Rattle.hardware.proofs.overlay.copy_out.Needs as need
 

@@ -8,8 +8,8 @@ use Rattle.std.proofs.shelf.Lists.{length-take-le}
 use Rattle.std.specs.declared.result.Result.{Result}
 use Rattle.stock.specs.declared.fault.StockFault.{StockFault}
 use Rattle.stock.specs.Arithmetic.{arithmetic-of}
-use Rattle.stock.specs.Step.{ended, words-after, answers-after}
-use Rattle.stock.specs.Store.{nth}
+use Rattle.meaning.specs.Step.{ended, words-after, answers-after}
+use Rattle.meaning.specs.Store.{nth}
 use Rattle.hardware.specs.Overlay.{laid}
 use Rattle.hardware.proofs.Laying.{one-more-aside}
 use Rattle.hardware.proofs.Asides.{found, listed-with, listed-not}

@@ -6,10 +6,10 @@ use Prim.Native.Nat.{ℕ, _+_, _<_, _≤_}
 use lib.ListN.{length, take}
 use Rattle.std.proofs.shelf.Lists.{take-all, length-take-le}
 use Rattle.stock.specs.Arithmetic.{arithmetic-of}
-use Rattle.stock.specs.Meaning.{Meaning, meaning, answer}
-use Rattle.stock.specs.Store.{nth}
-use Rattle.stock.proofs.Course.{goes-on, ends-here, all-done}
-use Rattle.stock.proofs.Passed.{ready-inside, ready-places, ready-word}
+use Rattle.meaning.specs.Meaning.{Meaning, meaning, answer}
+use Rattle.meaning.specs.Store.{nth}
+use Rattle.meaning.proofs.Course.{goes-on, ends-here, all-done}
+use Rattle.meaning.proofs.Passed.{ready-inside, ready-places, ready-word}
 use Rattle.hardware.specs.Overlay.{laid, with-word, finished}
 use Rattle.hardware.proofs.Folding.{aside, aside-is, aside-next, aside-le}
 use Rattle.hardware.proofs.Laying.{length-laid}

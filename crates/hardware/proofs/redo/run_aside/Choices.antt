@@ -2,8 +2,8 @@ use mathlib.Core.Path.{_≡_}
 use Prim.Native.Nat.{_≤_}
 use lib.ListN.{take, drop, length}
 use Rattle.stock.specs.Arithmetic.{arithmetic-of}
-use Rattle.stock.specs.Meaning.{from, meaning}
-use Rattle.stock.specs.Store.{nth}
+use Rattle.meaning.specs.Meaning.{from, meaning}
+use Rattle.meaning.specs.Store.{nth}
 use Rattle.hardware.specs.Overlay.{laid}
 use Rattle.hardware.proofs.Folding.{aside}
 use Rattle.hardware.proofs.redo.run_aside.Given as given

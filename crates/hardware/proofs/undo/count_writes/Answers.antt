@@ -4,8 +4,8 @@ use Prim.Native.Nat.{ℕ, _+_}
 use lib.ListN.{take}
 use Rattle.std.proofs.shelf.Lists.{take-all}
 use Rattle.std.proofs.shelf.Ways.{tells}
-use Rattle.stock.specs.Undo.{writes-in}
-use Rattle.stock.proofs.Restoring.{writes-next}
+use Rattle.meaning.specs.Undo.{writes-in}
+use Rattle.meaning.proofs.Restoring.{writes-next}
 use Rattle.hardware.proofs.Folding.{count-is}
 use Rattle.hardware.proofs.undo.count_writes.Needs as need
 

@@ -1,7 +1,7 @@
 use mathlib.Core.Path.{_≡_}
 use Prim.Native.Nat.{_≤_}
 use lib.ListN.{take}
-use Rattle.stock.specs.Undo.{writes-in}
+use Rattle.meaning.specs.Undo.{writes-in}
 use Rattle.hardware.proofs.undo.count_writes.Given as given
 
 abbrev pub Inv-loop-access : given.InvT-loop-access

@@ -1,7 +1,7 @@
 use mathlib.Core.Path.{_≡_, sym, _∙_}
 use Rattle.std.proofs.shelf.Results.{err-from-errBy}
 use Rattle.stock.specs.Arithmetic.{arithmetic-of}
-use Rattle.stock.specs.Store.{nth}
+use Rattle.meaning.specs.Store.{nth}
 use Rattle.hardware.proofs.RunFit.{faulted, granted}
 use Rattle.hardware.proofs.redo.RedoLogPath.run.Needs as need
 

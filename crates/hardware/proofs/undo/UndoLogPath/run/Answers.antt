@@ -4,7 +4,7 @@ use lib.ListN.{length}
 use Rattle.std.proofs.shelf.Results.{err-from-errBy}
 use Rattle.std.proofs.shelf.Tests.{leb-true}
 use Rattle.stock.specs.Arithmetic.{arithmetic-of}
-use Rattle.stock.specs.Store.{nth}
+use Rattle.meaning.specs.Store.{nth}
 use Rattle.hardware.proofs.Folding.{count-is}
 use Rattle.hardware.proofs.RunFit.{faulted, granted}
 use Rattle.hardware.proofs.undo.UndoLogPath.run.Needs as need

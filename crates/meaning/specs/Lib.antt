@@ -1,0 +1,7 @@
+pub mod Check
+pub mod Decline
+pub mod Meaning
+pub mod Perform
+pub mod Step
+pub mod Store
+pub mod Undo
