@@ -1,5 +1,5 @@
 // How a hardware transaction is run: the paths, each with its own limit, all with one meaning.
-pub mod overlay;
+mod overlay;
 pub mod path;
 pub mod places;
 pub mod redo;

@@ -29,8 +29,8 @@ pub enum Decline {
 pub impl From<AccessFault> for Decline as DeclineFromAccess {
     ghost converts = { λ f r. r ≡ Stock f };
 
-    fn from(fault: AccessFault) -> Self {
-        Decline::Stock(fault)
+    fn from(cause: AccessFault) -> Self {
+        Decline::Stock(cause)
     }
 }
 

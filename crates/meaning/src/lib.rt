@@ -3,5 +3,5 @@ pub mod check;
 pub mod decline;
 pub mod perform;
 pub mod slots;
-pub mod step;
+mod step;
 pub mod undo;

@@ -12,9 +12,9 @@ pub fn load<V: Copy>(values: &[V], place: usize) -> V
     values[place]
 }
 
-pub fn store<V: Copy>(values: &mut [V], place: usize, value: V)
-    requires { ⌜ place < length (now values) ⌝ }
-    ensures { λ _. ⌜ now (values .exit) ≡ set (now (values .entry)) place value ⌝ }
+pub fn store<V: Copy>(values: &mut [V], at: usize, value: V)
+    requires { ⌜ at < length (now values) ⌝ }
+    ensures { λ _. ⌜ now (values .exit) ≡ set (now (values .entry)) at value ⌝ }
 {
-    values[place] = value;
+    values[at] = value;
 }

@@ -58,7 +58,7 @@ pub impl Stock for Count as CountStock {
     }
 
     fn code(self) -> u64 {
-        self.value as u64
+        u64::from(self.value)
     }
 
     fn decode(code: u64) -> Option<Count> {

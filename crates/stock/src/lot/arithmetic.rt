@@ -91,7 +91,7 @@ pub impl Stock for Lot as LotStock {
     }
 
     fn code(self) -> u64 {
-        self.batch as u64 + 4_294_967_296 * self.count as u64
+        u64::from(self.batch) + 4_294_967_296 * u64::from(self.count)
     }
 
     fn decode(code: u64) -> Option<Lot> {
