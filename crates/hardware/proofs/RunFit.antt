@@ -5,8 +5,8 @@ use mathlib.Core.List.{List}
 use Rattle.std.specs.declared.result.Result.{Result}
 use Rattle.std.specs.declared.result.Result.the-variants.{Ok, Err}
 use Rattle.stock.specs.declared.access.Access.{Access}
-use Rattle.meaning.specs.declared.decline.Decline.{Decline}
-use Rattle.meaning.specs.declared.decline.Decline.the-variants.{Stock}
+use Rattle.decline.specs.declared.Decline.{Decline}
+use Rattle.decline.specs.declared.Decline.the-variants.{Stock}
 use Rattle.stock.specs.declared.fault.AccessFault.{AccessFault}
 use Rattle.stock.specs.Arithmetic.{Arithmetic}
 use Rattle.meaning.specs.Meaning.{meaning}

@@ -8,7 +8,7 @@ use Prim.Native.Nat.{ℕ, _<_}
 use Rattle.std.specs.shelf.Lists.{All}
 use Rattle.std.specs.declared.result.Result.the-variants.{Err}
 use Rattle.stock.specs.declared.access.Access.{Access}
-use Rattle.meaning.specs.declared.decline.Decline.the-variants.{Unfit}
+use Rattle.decline.specs.declared.Decline.the-variants.{Unfit}
 use Rattle.stock.specs.Arithmetic.{Arithmetic}
 use Rattle.meaning.specs.Meaning.{meaning}
 use Rattle.meaning.specs.Perform.{Performed, concluded}

@@ -14,13 +14,13 @@ ghost use Rattle.meaning.specs.Store.{nth};
 ghost use Rattle.hardware.specs.Limits.{place-from};
 ghost use Rattle.hardware.specs.Overlay.{laid, seen-at, placed, listed, with-word, finished};
 use crate::places::place_of;
-use stock::access::Access;
 use meaning::check::is_writing;
+use meaning::slots::load;
+use meaning::slots::store;
+use stock::access::Access;
 use stock::compute::compute;
 use stock::fault::AccessFault;
 use stock::kind::AccessKind;
-use meaning::slots::load;
-use meaning::slots::store;
 use stock::value::Stock;
 
 // The value of a word as it would be.

@@ -8,8 +8,8 @@ ghost use Rattle.stock.specs.Arithmetic.{arithmetic-of};
 ghost use Rattle.meaning.specs.Check.{Ready};
 ghost use Rattle.meaning.specs.Store.{nth};
 ghost use Rattle.hardware.specs.Path.{shapes, Known, ran};
+use decline::Decline;
 use stock::access::Access;
-use meaning::decline::Decline;
 use stock::value::Stock;
 
 pub trait HardwarePath {

@@ -16,14 +16,14 @@ use crate::overlay::copy_out;
 use crate::overlay::step_aside;
 use crate::path::HardwarePath;
 use crate::places::place_of;
-use stock::access::Access;
+use decline::Decline;
+use decline::DeclineFromAccess;
 use meaning::check::is_writing;
-use meaning::decline::Decline;
-use meaning::decline::DeclineFromAccess;
+use stock::access::Access;
 use stock::fault::AccessFault;
 use stock::value::Stock;
 
-pub const MAX_WORDS: usize = 16;
+pub const MAX_WRITTEN: usize = 16;
 
 // Notes the word of a writing access, if it is new; nothing where it finds no place.
 fn note_word<V>(places: &mut [u32], n: usize, access: &Access<V>) -> Option<usize>
@@ -36,7 +36,7 @@ fn note_word<V>(places: &mut [u32], n: usize, access: &Access<V>) -> Option<usiz
     if place_of(&places[0..n], access.word).is_some() {
         return Some(n);
     }
-    if n >= MAX_WORDS {
+    if n >= MAX_WRITTEN {
         return None;
     }
     places[n] = access.word;

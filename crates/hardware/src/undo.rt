@@ -4,11 +4,11 @@ ghost use lib.Dec.{leb};
 ghost use Rattle.hardware.specs.Path.{shapes};
 ghost use Rattle.hardware.specs.Limits.{write-count};
 use crate::path::HardwarePath;
-use stock::access::Access;
+use decline::Decline;
+use decline::DeclineFromAccess;
 use meaning::check::is_writing;
-use meaning::decline::Decline;
-use meaning::decline::DeclineFromAccess;
 use meaning::undo::run_saving;
+use stock::access::Access;
 use stock::value::Stock;
 
 // As many saved values as there are work values.

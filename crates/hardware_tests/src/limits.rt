@@ -1,13 +1,13 @@
 use crate::bench::agree;
 use crate::bench::by_path;
 use crate::bench::same;
+use decline::Decline;
+use decline::DeclinePartialEq;
 use hardware::path::HardwarePath;
 use hardware::redo::RedoLog;
 use hardware::redo::RedoLogPath;
 use hardware::undo::UndoLog;
 use hardware::undo::UndoLogPath;
-use meaning::decline::Decline;
-use meaning::decline::DeclinePartialEq;
 use std::test::*;
 use stock::access::Access;
 use stock::count::Count;

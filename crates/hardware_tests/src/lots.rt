@@ -1,11 +1,11 @@
 use crate::bench::run_checked;
+use decline::Decline;
+use decline::DeclinePartialEq;
 use hardware::path::HardwarePath;
 use hardware::redo::RedoLog;
 use hardware::redo::RedoLogPath;
 use hardware::undo::UndoLog;
 use hardware::undo::UndoLogPath;
-use meaning::decline::Decline;
-use meaning::decline::DeclinePartialEq;
 use std::test::*;
 use stock::access::Access;
 use stock::fault::AccessFault;

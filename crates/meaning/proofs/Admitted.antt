@@ -11,8 +11,8 @@ use Rattle.std.specs.declared.result.Result.{Result}
 use Rattle.std.specs.declared.result.Result.the-variants.{Ok, Err}
 use Rattle.std.proofs.shelf.Tests.{or-parts, not-false, eqb-true}
 use Rattle.stock.specs.declared.access.Access.{Access}
-use Rattle.meaning.specs.declared.decline.Decline.{Decline}
-use Rattle.meaning.specs.declared.decline.Decline.the-variants.{WrongLength, WrongAccessCount}
+use Rattle.decline.specs.declared.Decline.{Decline}
+use Rattle.decline.specs.declared.Decline.the-variants.{WrongLength, WrongAccessCount}
 use Rattle.stock.specs.Access.{writing-access}
 use Rattle.meaning.specs.Check.{Ready, bad-count}
 use Rattle.meaning.specs.Perform.{admitted}

@@ -6,7 +6,7 @@ use lib.ListN.{getD, length, drop}
 use Rattle.std.specs.declared.result.Result.{Result}
 use Rattle.std.specs.declared.result.Result.the-variants.{Ok, Err}
 use Rattle.stock.specs.declared.access.Access.{Access}
-use Rattle.meaning.specs.declared.decline.Decline.{Decline}
+use Rattle.decline.specs.declared.Decline.{Decline}
 use Rattle.meaning.specs.Check.{and-then, check-access, checked}
 use Rattle.meaning.proofs.DropRead.{drop-read}
 

@@ -11,8 +11,8 @@ use Rattle.std.specs.declared.result.Result.{Result}
 use Rattle.std.specs.declared.result.Result.the-variants.{Ok, Err}
 use Rattle.std.proofs.shelf.Tests.{leb-false, or-parts, ltb-false}
 use Rattle.stock.specs.declared.access.Access.{Access}
-use Rattle.meaning.specs.declared.decline.Decline.{Decline}
-use Rattle.meaning.specs.declared.decline.Decline.the-variants.{UnknownKind, UnknownWord}
+use Rattle.decline.specs.declared.Decline.{Decline}
+use Rattle.decline.specs.declared.Decline.the-variants.{UnknownKind, UnknownWord}
 use Rattle.meaning.specs.Check.{and-then, check-access, checked, Ready, Inside}
 use Rattle.stock.specs.Kind.{kind-of}
 

@@ -15,8 +15,8 @@ use Rattle.std.specs.Options.{isSome}
 use Rattle.std.specs.declared.result.Result.{Result}
 use Rattle.std.specs.declared.result.Result.the-variants.{Ok, Err}
 use Rattle.stock.specs.declared.access.Access.{Access}
-use Rattle.meaning.specs.declared.decline.Decline.{Decline}
-use Rattle.meaning.specs.declared.decline.Decline.the-variants.{UnknownKind, UnknownWord}
+use Rattle.decline.specs.declared.Decline.{Decline}
+use Rattle.decline.specs.declared.Decline.the-variants.{UnknownKind, UnknownWord}
 use Rattle.stock.specs.Kind.{kind-of}
 
 abbrev pub bad-count : ℕ → Bool

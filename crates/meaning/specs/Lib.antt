@@ -1,5 +1,4 @@
 pub mod Check
-pub mod Decline
 pub mod Meaning
 pub mod Perform
 pub mod Step

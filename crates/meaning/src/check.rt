@@ -3,8 +3,8 @@ ghost use mathlib.Core.Path.{_≡_};
 ghost use lib.ListN.{length};
 ghost use Rattle.stock.specs.Access.{writing-access};
 ghost use Rattle.meaning.specs.Check.{bad-count, wrong-access-count, check-access, checked};
+use decline::Decline;
 use stock::access::Access;
-use crate::decline::Decline;
 use stock::kind::AccessKind;
 
 pub const MAX_WORDS: usize = 4096;

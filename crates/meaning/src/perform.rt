@@ -4,14 +4,14 @@ ghost use lib.ListN.{length};
 ghost use Rattle.stock.specs.Arithmetic.{arithmetic-of};
 ghost use Rattle.meaning.specs.Perform.{admitted, performed};
 ghost use Rattle.meaning.specs.Store.{nth};
-use stock::access::Access;
 use crate::check::MAX_ACCESSES;
 use crate::check::check_accesses;
 use crate::check::is_bad_count;
 use crate::check::is_wrong_access_count;
-use crate::decline::Decline;
-use crate::decline::DeclineFromAccess;
 use crate::undo::run_saving;
+use decline::Decline;
+use decline::DeclineFromAccess;
+use stock::access::Access;
 use stock::value::Stock;
 
 // The checks that a transaction with these numbers of words, answers and saved values must pass.

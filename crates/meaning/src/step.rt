@@ -6,13 +6,13 @@ ghost use Rattle.stock.specs.Arithmetic.{arithmetic-of};
 ghost use Rattle.meaning.specs.Meaning.{answer};
 ghost use Rattle.meaning.specs.Step.{ended, words-after, answers-after};
 ghost use Rattle.meaning.specs.Store.{nth};
-use stock::access::Access;
 use crate::check::is_writing;
+use crate::slots::load;
+use crate::slots::store;
+use stock::access::Access;
 use stock::compute::compute;
 use stock::fault::AccessFault;
 use stock::kind::AccessKind;
-use crate::slots::load;
-use crate::slots::store;
 use stock::value::Stock;
 
 pub fn step<V: Stock + Copy>(

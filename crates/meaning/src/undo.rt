@@ -10,12 +10,12 @@ ghost use Rattle.meaning.specs.Check.{Inside, Ready};
 ghost use Rattle.meaning.specs.Meaning.{meaning};
 ghost use Rattle.meaning.specs.Store.{nth};
 ghost use Rattle.meaning.specs.Undo.{one, writes-in, last-first, undone, saved-by, restored-by, fewer-by};
-use stock::access::Access;
 use crate::check::is_writing;
-use stock::fault::AccessFault;
 use crate::slots::load;
 use crate::slots::store;
 use crate::step::step;
+use stock::access::Access;
+use stock::fault::AccessFault;
 use stock::value::Stock;
 
 // Saves the word of a writing access, and says how many are saved now.

@@ -80,7 +80,12 @@ fn codes() -> Result<(), Fail> {
         }
     }
     // A batch without a count, a count without a batch, and each past its limit.
-    for code in [1, 4_294_967_296, 4_294_967_297 + 999_999, 4_294_967_296_000_000 + 1] {
+    for code in [
+        1,
+        4_294_967_296,
+        4_294_967_297 + 999_999,
+        4_294_967_296_000_000 + 1,
+    ] {
         check(Lot::decode(code).is_none())?;
     }
     Ok(())
