@@ -22,6 +22,9 @@ module _ {V : Type 0} where
   nth-getD (x ∷ xs) zero d h = refl
   nth-getD (x ∷ xs) (suc i) d h = nth-getD xs i d (omega arith)
 
+  pub nth-is : (xs : List V) (i : ℕ) (v : V) → i < length xs → v ≡ getD xs i v → nth xs i ≡ Some v
+  nth-is xs i v h e = nth-getD xs i v h ∙ ap Some (sym e)
+
   pub nth-valueOr : (xs : List V) (i : ℕ) (d : V) → valueOr (nth xs i) d ≡ getD xs i d
   nth-valueOr [] i d = refl
   nth-valueOr (x ∷ xs) zero d = refl

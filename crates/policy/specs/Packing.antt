@@ -19,7 +19,8 @@ abbrev pub packed : OwnershipRecord → ℕ
 packed o = mode-number (o .mode) + 4 * o .readers + 1024 * o .thread + 65536 * o .version
 
 abbrev pub mode-of : ℕ → Option Mode
-mode-of n = cond (eqb n 0) (Some Free) (cond (eqb n 1) (Some Read) (cond (eqb n 2) (Some Write) None))
+mode-of n =
+    cond (eqb n (mode-number Free)) (Some Free) (cond (eqb n (mode-number Read)) (Some Read) (cond (eqb n (mode-number Write)) (Some Write) None))
 
 abbrev pub read-off : Mode → ℕ → OwnershipRecord
 read-off m n = record { mode = m; readers = n % 1024 / 4; thread = n % 65536 / 1024; version = n / 65536 }
