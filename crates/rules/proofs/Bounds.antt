@@ -30,7 +30,7 @@ use Rattle.rules.proofs.Basics.{put-at, put-other, put-same}
 use Rattle.rules.proofs.Inv.{Inv, inv-put}
 use Rattle.rules.proofs.Release.{inv-release, kept, leaves-idle, leaves-kept}
 use Rattle.rules.proofs.Sets.{tally-none, tally-up}
-use Rattle.rules.proofs.Take.{inv-takeRead, inv-takeWrite, seenOf, withReads}
+use Rattle.rules.proofs.Take.{inv-take-read, inv-take-write, seen-of, with-reads}
 use Rattle.rules.proofs.Places.{added-distinct, added-few}
 
 -- a committed descriptor has something left to write back
@@ -268,26 +268,26 @@ module _ (c : State) (t : ℕ) (below : t < 16) where
     module _ (r : ℕ) (small : r < 64) (free : f r .mode ≡ Write → gone (g (f r .thread) .status) ≡ true) where
       pub state-read : isSome (g t .reads r) ≡ false → size (g t .reads) < 32 → Steady (read-by t r c)
       state-read fresh room =
-          let x : Option Seen = Some (seenOf (f r)) in
-          let d : Descriptor = withReads (put (g t .reads) r x) (g t) in
+          let x : Option Seen = Some (seen-of (f r)) in
+          let d : Descriptor = with-reads (put (g t .reads) r x) (g t) in
           let n : size (put (g t .reads) r x) ≡ suc (size (g t .reads)) =
           tally-up (λ q. isSome (g t .reads q)) (λ q. isSome (put (g t .reads) r x q)) 64 r small
           (λ q k. ap isSome (sym (put-other (g t .reads) r q x k))) fresh (ap isSome (put-same (g t .reads) r x)) in
           record {
-            inv = inv-takeRead f g t r below act free (s .inv) small fresh;
+            inv = inv-take-read f g t r below act free (s .inv) small fresh;
             left = left-put g t d (s .left) (still d refl);
             bounds = bounds-put c _ t d refl (subst (λ k. k ≤ 32) (sym n) room) (s .bounds .words t) (λ _. since) (s .bounds);
           }
 
       pub state-written : Steady (written-by t r c)
       state-written =
-          let d : Descriptor = withReads (put (g t .reads) r None) (g t) in
+          let d : Descriptor = with-reads (put (g t .reads) r None) (g t) in
           let n : size (put (g t .reads) r None) ≤ size (g t .reads) =
           tally-le (λ q. isSome (put (g t .reads) r None q)) (λ q. isSome (g t .reads q)) 64
           (λ q. put-at (g t .reads) r q None (λ x. isSome x ≡ true → isSome (g t .reads q) ≡ true) (λ _ e. absurd (false≢true e)) (λ _ e. e)) in
           let k = s .bounds .sizes t in
           record {
-            inv = inv-takeWrite f g t r below act free (s .inv);
+            inv = inv-take-write f g t r below act free (s .inv);
             left = left-put g t d (s .left) (still d refl);
             bounds = bounds-put c _ t d refl (most (size (put (g t .reads) r None)) (size (g t .reads)) n k) (s .bounds .words t) (λ _. since) (s .bounds);
           }

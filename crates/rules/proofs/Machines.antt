@@ -13,11 +13,11 @@ module _ {V : Type 0} where
   abbrev pub abort : ℕ → Machine V → Machine V
   abort t = on (aborted-by t)
 
-  abbrev pub takeRead : ℕ → ℕ → Machine V → Machine V
-  takeRead t r = on (read-by t r)
+  abbrev pub take-read : ℕ → ℕ → Machine V → Machine V
+  take-read t r = on (read-by t r)
 
-  abbrev pub takeWrite : ℕ → ℕ → Machine V → Machine V
-  takeWrite t r = on (written-by t r)
+  abbrev pub take-write : ℕ → ℕ → Machine V → Machine V
+  take-write t r = on (written-by t r)
 
   abbrev pub keep : ℕ → Machine V → Machine V
   keep t = on (kept-by t)

@@ -3,7 +3,7 @@ use Prim.Native.Nat.{_*_, _+_, _<_, ℕ}
 use Rattle.meaning.specs.Store.{put}
 use Rattle.policy.specs.declared.orec.Mode.the-variants.{Write}
 use Rattle.policy.specs.declared.orec.OwnershipRecord.{OwnershipRecord}
-use Rattle.rules.proofs.Machines.{abort, opened, takeRead, takeWrite}
+use Rattle.rules.proofs.Machines.{abort, opened, take-read, take-write}
 use Rattle.rules.specs.Course.{start}
 use Rattle.rules.specs.Ledger.{Ledger}
 use Rattle.rules.specs.Logical.{logical, pends}
@@ -29,7 +29,7 @@ use Rattle.rules.proofs.Basics.{put-at, put-other, put-same}
 use Rattle.rules.proofs.Inv.{Inv, inv-put, wrote-put}
 use Rattle.rules.proofs.Release.{owned-from, owned-is}
 use Rattle.rules.proofs.Replaying.{Follows, follows-on, touched}
-use Rattle.rules.proofs.Take.{inv-takeRead, inv-takeWrite, readBy, seenOf, withReads, writtenBy, wrote-take}
+use Rattle.rules.proofs.Take.{inv-take-read, inv-take-write, read-record, seen-of, with-reads, written-record, wrote-take}
 use Rattle.rules.proofs.Turn.{Good, Turn, Valid, good-turn, quiet}
 
 pub pends-none : (d : Descriptor) (b : ℕ) → is-committed (d .status) ≡ false → pends d b ≡ false
@@ -165,7 +165,7 @@ module _ {V : Type 0} (P : Policy V) where
         -- a change of the record r and of t's snapshot of it
         module _ (o : OwnershipRecord) (x : Option Seen) where
           abbrev d₃ : Descriptor
-          d₃ = withReads (put (g t .reads) r x) (g t)
+          d₃ = with-reads (put (g t .reads) r x) (g t)
 
           abbrev m₃ : Machine V
           m₃ =
@@ -220,34 +220,34 @@ module _ {V : Type 0} (P : Policy V) where
                 (λ _ _. record { touches = sure-take .touches; replays = λ _. sure-take .replays tt; views = λ _. sure-take .views tt })
 
         module _ (small : r < 64) (fresh : isSome (g t .reads r) ≡ false) where
-          was-read : (e : Seen) → Snap f g r e → matches (readBy (f r)) e ≡ true → matches (f r) e ≡ true
+          was-read : (e : Seen) → Snap f g r e → matches (read-record (f r)) e ≡ true → matches (f r) e ≡ true
           was-read e sn h = and-from (is-read (f r .mode)) (pair (f r) e) (ap is-read (sn .1 h)) h
 
-          still-read : touched t (withReads (put (g t .reads) r (Some (seenOf (f r)))) (g t)) r (readBy (f r)) ≡ true
-          still-read = ap isSome (put-same (g t .reads) r (Some (seenOf (f r))))
+          still-read : touched t (with-reads (put (g t .reads) r (Some (seen-of (f r)))) (g t)) r (read-record (f r)) ≡ true
+          still-read = ap isSome (put-same (g t .reads) r (Some (seen-of (f r))))
 
-          inv-r : Inv (put f r (readBy (f r))) (put g t (withReads (put (g t .reads) r (Some (seenOf (f r)))) (g t)))
-          inv-r = inv-takeRead f g t r below act free (good .inv) small fresh
+          inv-r : Inv (put f r (read-record (f r))) (put g t (with-reads (put (g t .reads) r (Some (seen-of (f r)))) (g t)))
+          inv-r = inv-take-read f g t r below act free (good .inv) small fresh
 
-          pub good-takeRead : Good P (takeRead t r m) l
-          good-takeRead = good-take (readBy (f r)) (Some (seenOf (f r))) was-read still-read inv-r
+          pub good-take-read : Good P (take-read t r m) l
+          good-take-read = good-take (read-record (f r)) (Some (seen-of (f r))) was-read still-read inv-r
 
-          pub sure-takeRead : Follows P (Unit {0}) (takeRead t r m) t (l .accesses t)
-          sure-takeRead = sure-take (readBy (f r)) (Some (seenOf (f r))) was-read still-read inv-r
+          pub sure-take-read : Follows P (Unit {0}) (take-read t r m) t (l .accesses t)
+          sure-take-read = sure-take (read-record (f r)) (Some (seen-of (f r))) was-read still-read inv-r
 
-        was-write : (e : Seen) → Snap f g r e → matches (writtenBy t (g t .version)) e ≡ true → matches (f r) e ≡ true
+        was-write : (e : Seen) → Snap f g r e → matches (written-record t (g t .version)) e ≡ true → matches (f r) e ≡ true
         was-write e sn h = absurd (false≢true h)
 
-        still-write : touched t (withReads (put (g t .reads) r None) (g t)) r (writtenBy t (g t .version)) ≡ true
+        still-write : touched t (with-reads (put (g t .reads) r None) (g t)) r (written-record t (g t .version)) ≡ true
         still-write =
-            or-left (owns-to-write t (g t .version) (writtenBy t (g t .version))) (isSome (put (g t .reads) r None r))
-            (owned-from t (g t .version) (writtenBy t (g t .version)) refl refl refl)
+            or-left (owns-to-write t (g t .version) (written-record t (g t .version))) (isSome (put (g t .reads) r None r))
+            (owned-from t (g t .version) (written-record t (g t .version)) refl refl refl)
 
-        inv-w : Inv (put f r (writtenBy t (g t .version))) (put g t (withReads (put (g t .reads) r None) (g t)))
-        inv-w = inv-takeWrite f g t r below act free (good .inv)
+        inv-w : Inv (put f r (written-record t (g t .version))) (put g t (with-reads (put (g t .reads) r None) (g t)))
+        inv-w = inv-take-write f g t r below act free (good .inv)
 
-        pub good-takeWrite : Good P (takeWrite t r m) l
-        good-takeWrite = good-take (writtenBy t (g t .version)) None was-write still-write inv-w
+        pub good-take-write : Good P (take-write t r m) l
+        good-take-write = good-take (written-record t (g t .version)) None was-write still-write inv-w
 
-        pub sure-takeWrite : Follows P (Unit {0}) (takeWrite t r m) t (l .accesses t)
-        sure-takeWrite = sure-take (writtenBy t (g t .version)) None was-write still-write inv-w
+        pub sure-take-write : Follows P (Unit {0}) (take-write t r m) t (l .accesses t)
+        sure-take-write = sure-take (written-record t (g t .version)) None was-write still-write inv-w

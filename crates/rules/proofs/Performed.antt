@@ -4,7 +4,7 @@ use Rattle.meaning.specs.Meaning.{answer}
 use Rattle.meaning.specs.Store.{Store, put}
 use Rattle.policy.specs.declared.orec.Mode.the-variants.{Write}
 use Rattle.policy.specs.declared.orec.OwnershipRecord.{OwnershipRecord}
-use Rattle.rules.proofs.Machines.{takeRead, takeWrite}
+use Rattle.rules.proofs.Machines.{take-read, take-write}
 use Rattle.rules.specs.Accessing.{answered, performed, seen}
 use Rattle.rules.specs.Changes.{read-by, written-by}
 use Rattle.rules.specs.Ledger.{Ledger, feed}
@@ -39,10 +39,10 @@ use mathlib.Core.Path.{_∙_, _≡_, ap, refl, subst, sym}
 use Rattle.rules.proofs.Acts.{good-draft, good-note, sure-draft, sure-note}
 use Rattle.rules.proofs.Basics.{never, put-at, put-same}
 use Rattle.rules.proofs.Holds.{Holds}
-use Rattle.rules.proofs.Moves.{good-takeRead, good-takeWrite, sure-takeRead, sure-takeWrite}
+use Rattle.rules.proofs.Moves.{good-take-read, good-take-write, sure-take-read, sure-take-write}
 use Rattle.rules.proofs.Release.{owned-from}
 use Rattle.rules.proofs.Replaying.{Follows, touched}
-use Rattle.rules.proofs.Take.{readBy, seenOf, withReads, writtenBy}
+use Rattle.rules.proofs.Take.{read-record, seen-of, with-reads, written-record}
 use Rattle.rules.proofs.Turn.{Good}
 
 -- a committed descriptor has something left to write back, and an active one's priority names its thread
@@ -120,10 +120,10 @@ module _ {V : Type 0} (P : Policy V) where
     f = m .state .orecs
 
     abbrev dr : Descriptor
-    dr = withReads (put (g t .reads) r (Some (seenOf (f r)))) (g t)
+    dr = with-reads (put (g t .reads) r (Some (seen-of (f r)))) (g t)
 
     abbrev dw : Descriptor
-    dw = withReads (put (g t .reads) r None) (g t)
+    dw = with-reads (put (g t .reads) r None) (g t)
 
     pub post-take :
         Post (access t o) l
@@ -131,26 +131,26 @@ module _ {V : Type 0} (P : Policy V) where
     post-take =
         cond-both (writing-access o) (written-by t r (m .state)) (read-by t r (m .state)) (λ c. Post (access t o) l (performed P t o (on (λ _. c) m)))
         (λ w. let k = w in
-        let ow : owns-to-write t (put g t dw t .version) (put f r (writtenBy t (g t .version)) r) ≡ true =
-        ap (λ d. owns-to-write t (d .version) (put f r (writtenBy t (g t .version)) r)) (put-same g t dw)
-        ∙ ap (owns-to-write t (g t .version)) (put-same f r (writtenBy t (g t .version)))
-        ∙ owned-from t (g t .version) (writtenBy t (g t .version)) refl refl refl in
-        post-performed (takeWrite t r m) l t o (good-takeWrite P m l good t below act sure r free) below
+        let ow : owns-to-write t (put g t dw t .version) (put f r (written-record t (g t .version)) r) ≡ true =
+        ap (λ d. owns-to-write t (d .version) (put f r (written-record t (g t .version)) r)) (put-same g t dw)
+        ∙ ap (owns-to-write t (g t .version)) (put-same f r (written-record t (g t .version)))
+        ∙ owned-from t (g t .version) (written-record t (g t .version)) refl refl refl in
+        post-performed (take-write t r m) l t o (good-take-write P m l good t below act sure r free) below
         (left-put g t dw left ((λ e. not-committed (g t .status) act e), left t .1))
         (ap (λ d. d .status) (put-same g t dw) ∙ act)
-        (sure-takeWrite P m l good t below act sure r free)
-        (or-left (owns-to-write t (put g t dw t .version) (put f r (writtenBy t (g t .version)) r)) (isSome (put g t dw t .reads r)) ow)
-        (λ _. ap (λ x. x .thread) (put-same f r (writtenBy t (g t .version))))
+        (sure-take-write P m l good t below act sure r free)
+        (or-left (owns-to-write t (put g t dw t .version) (put f r (written-record t (g t .version)) r)) (isSome (put g t dw t .reads r)) ow)
+        (λ _. ap (λ x. x .thread) (put-same f r (written-record t (g t .version))))
         (λ _. ow)
         (λ z. subst (λ d. has (o .word) (d .writes) ≡ false → length (d .writes) < 32) (sym (put-same g t dw)) (room z)))
         (λ w. let k = w in
         let s = fresh k in
-        post-performed (takeRead t r m) l t o (good-takeRead P m l good t below act sure r free small s) below
+        post-performed (take-read t r m) l t o (good-take-read P m l good t below act sure r free small s) below
         (left-put g t dr left ((λ e. not-committed (g t .status) act e), left t .1))
         (ap (λ d. d .status) (put-same g t dr) ∙ act)
-        (sure-takeRead P m l good t below act sure r free small s)
-        (or-right (owns-to-write t (put g t dr t .version) (put f r (readBy (f r)) r)) (isSome (put g t dr t .reads r))
-        (ap (λ d. isSome (d .reads r)) (put-same g t dr) ∙ ap isSome (put-same (g t .reads) r (Some (seenOf (f r))))))
-        (λ e. absurd (false≢true (ap is-write (sym (ap (λ x. x .mode) (put-same f r (readBy (f r)))) ∙ e))))
+        (sure-take-read P m l good t below act sure r free small s)
+        (or-right (owns-to-write t (put g t dr t .version) (put f r (read-record (f r)) r)) (isSome (put g t dr t .reads r))
+        (ap (λ d. isSome (d .reads r)) (put-same g t dr) ∙ ap isSome (put-same (g t .reads) r (Some (seen-of (f r))))))
+        (λ e. absurd (false≢true (ap is-write (sym (ap (λ x. x .mode) (put-same f r (read-record (f r)))) ∙ e))))
         (λ z. never (writing-access o) z k)
         (λ z. never (writing-access o) z k))

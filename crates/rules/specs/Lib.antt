@@ -13,7 +13,6 @@ pub mod Logical
 pub mod Machine
 pub mod Next
 pub mod Outcome
-pub mod Outside
 pub mod Ownership
 pub mod Policy
 pub mod ReadSet
