@@ -3,7 +3,6 @@ use Prim.Native.Nat.{ℕ}
 use mathlib.Core.Path.{_≡_, ap, refl, subst}
 use mathlib.Core.Bool.{false, true}
 use mathlib.Core.List.{List, [], _∷_}
-use native.Mathlib.Omega.{arith}
 use Rattle.std.proofs.shelf.Tests.{false≢true, true≢false}
 use Rattle.rules.specs.Course.{Course, Moment, course, start, turn}
 use Rattle.rules.specs.Machine.{new}
@@ -11,36 +10,13 @@ use Rattle.rules.specs.Next.{next}
 use Rattle.rules.specs.Policy.{Laws, Policy}
 use Rattle.rules.specs.Request.{Request, access, commit, hardware}
 use Rattle.rules.specs.Serial.{Consistent, Runs-consistent, Runs-serial, Serial, after, before, outcome}
-use Rattle.rules.specs.State.{new-state}
-use Rattle.rules.specs.Tests.{is-active, is-committed, is-read, is-write}
+use Rattle.rules.specs.Tests.{is-active, is-committed}
+use Rattle.rules.proofs.Bounds.{state-new}
 use Rattle.rules.proofs.Calls.{post-next}
 use Rattle.rules.proofs.Holds.{Holds}
-use Rattle.rules.proofs.Inv.{Inv}
 use Rattle.rules.proofs.Logicals.{none-logical}
 use Rattle.rules.proofs.Performed.{Left, Post}
 use Rattle.rules.proofs.Turn.{Good}
-
-inv-new : Inv (new-state .orecs) (new-state .descriptors)
-inv-new =
-    record {
-      owns = λ _ e. absurd (false≢true (ap is-write e));
-      dead = λ _ _. (omega arith, λ _. refl);
-      snaps = λ _ _. tt;
-      shape =
-          λ _. record {
-            idle-reads = λ _ _. refl;
-            idle-writes = λ _. refl;
-            committed-reads = λ _ _. refl;
-            beyond = λ _ _. refl;
-            active-written = λ _. refl;
-            few = omega arith;
-            distinct = tt;
-          };
-      outside = λ _ _. refl;
-      busy = λ _ e. absurd (false≢true (ap is-read e));
-      threads = λ _. omega arith;
-      counts = λ _. refl;
-    }
 
 module _ {V : Type 0} (P : Policy V) (laws : Laws (P .rules)) where
   record Followed (s : Course V) : Type 0 where
@@ -61,7 +37,7 @@ module _ {V : Type 0} (P : Policy V) (laws : Laws (P .rules)) where
       record {
         good =
             record {
-              inv = inv-new;
+              inv = state-new .inv;
               wrote = λ _ _ e. absurd (true≢false e);
               figures = λ b. none-logical (new ws ds) b 16 (λ _ _. refl);
               follows = λ _ _ e. absurd (false≢true (ap is-active e));
