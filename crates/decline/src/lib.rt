@@ -1,4 +1,6 @@
 // Why a call is declined: one enum for every layer, numbered as docs/ANSWERS.md lists them.
+#![tactic(auto)]
+
 ghost use Rattle.std.specs.Prelude.{◌≡◌};
 ghost use Rattle.decline.specs.declared.Decline.TheVariants.{Stock};
 ghost use Rattle.decline.specs.Decline.{number_of, place_of, detail_of, name_of};

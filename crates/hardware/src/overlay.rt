@@ -75,9 +75,9 @@ pub fn step_aside<V: Stock + Copy>(
 ) -> Result<usize, AccessFault>
     requires word_in_bounds { (access.word < length words.now) × ((place < length answers.old) × ((n ≤ length places.old) × (n ≤ length work.old))) }
     requires n_in_bounds { writing_access access ≡ true → is_some (place_from access.word 0 (take n places.old)) ≡ false → (n < length places.old) × (n < length work.old) }
-    ensures outcome { finished result ≡ ended place (answer (arithmetic_of draws stows) (nth (laid (take n places.old) (take n work.old) words.now)) access) }
-    ensures words { IfOk result (λ m. laid (take m places.new) (take m work.new) words.now ≡ words_after (answer (arithmetic_of draws stows) (nth (laid (take n places.old) (take n work.old) words.now)) access) access (laid (take n places.old) (take n work.old) words.now)) }
-    ensures answers { answers.new ≡ answers_after (answer (arithmetic_of draws stows) (nth (laid (take n places.old) (take n work.old) words.now)) access) place access answers.old }
+    ensures outcome { finished result ≡ ended place (answer (arithmetic_of V.draws V.stows) (nth (laid (take n places.old) (take n work.old) words.now)) access) }
+    ensures words { IfOk result (λ m. laid (take m places.new) (take m work.new) words.now ≡ words_after (answer (arithmetic_of V.draws V.stows) (nth (laid (take n places.old) (take n work.old) words.now)) access) access (laid (take n places.old) (take n work.old) words.now)) }
+    ensures answers { answers.new ≡ answers_after (answer (arithmetic_of V.draws V.stows) (nth (laid (take n places.old) (take n work.old) words.now)) access) place access answers.old }
     ensures fits { IfOk result (λ m. (m ≤ length places.new) × (m ≤ length work.new)) }
     ensures places { IfOk result (λ m. take m places.new ≡ with_word (take n places.old) access) }
 {

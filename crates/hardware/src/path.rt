@@ -26,9 +26,9 @@ pub trait HardwarePath {
     ) -> Result<(), Decline>
         requires ready { Ready (length words.old) accesses.now (length answers.old) }
         requires work { length work.old ≡ 32 }
-        ensures outcome { result ≡ (ran (holds self.now (shapes accesses.now)) (arithmetic_of draws stows) accesses.now (nth words.old) answers.old).outcome }
-        ensures words { nth words.new ≡ (ran (holds self.now (shapes accesses.now)) (arithmetic_of draws stows) accesses.now (nth words.old) answers.old).words }
-        ensures answers { answers.new ≡ (ran (holds self.now (shapes accesses.now)) (arithmetic_of draws stows) accesses.now (nth words.old) answers.old).answers };
+        ensures outcome { result ≡ (ran (holds self.now (shapes accesses.now)) (arithmetic_of V.draws V.stows) accesses.now (nth words.old) answers.old).outcome }
+        ensures words { nth words.new ≡ (ran (holds self.now (shapes accesses.now)) (arithmetic_of V.draws V.stows) accesses.now (nth words.old) answers.old).words }
+        ensures answers { answers.new ≡ (ran (holds self.now (shapes accesses.now)) (arithmetic_of V.draws V.stows) accesses.now (nth words.old) answers.old).answers };
 
     ghost short: { (p : Self) (s : List (ℕ × ℕ)) → length s ≤ 1 → Known s → holds p s ≡ true };
 }

@@ -63,9 +63,9 @@ fn run_aside<V: Stock + Copy>(
     work: &mut [V],
 ) -> Result<(), AccessFault>
     requires { (Ready (length words.old) accesses.now (length answers.old)) × ((length (written_words (shapes accesses.now)) ≤ 16) × (16 ≤ length work.old)) }
-    ensures outcome { result ≡ (meaning (arithmetic_of draws stows) accesses.now (nth words.old) answers.old).result }
-    ensures words { nth words.new ≡ (meaning (arithmetic_of draws stows) accesses.now (nth words.old) answers.old).words }
-    ensures answers { answers.new ≡ (meaning (arithmetic_of draws stows) accesses.now (nth words.old) answers.old).answers }
+    ensures outcome { result ≡ (meaning (arithmetic_of V.draws V.stows) accesses.now (nth words.old) answers.old).result }
+    ensures words { nth words.new ≡ (meaning (arithmetic_of V.draws V.stows) accesses.now (nth words.old) answers.old).words }
+    ensures answers { answers.new ≡ (meaning (arithmetic_of V.draws V.stows) accesses.now (nth words.old) answers.old).answers }
 {
     let mut places = [0u32; 16];
     let mut n: usize = 0;

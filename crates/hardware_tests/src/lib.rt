@@ -1,4 +1,6 @@
 // Both hardware paths beside the meaning: one result on the same transactions, at their limits and at every place of a fault.
+#![tactic(auto)]
+
 #[cfg(test)]
 mod bench;
 #[cfg(test)]

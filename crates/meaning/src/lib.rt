@@ -1,4 +1,6 @@
 // Hardware transactions by their meaning, with what is asked of them first.
+#![tactic(auto)]
+
 pub mod check;
 pub mod perform;
 pub mod slots;

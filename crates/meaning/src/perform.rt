@@ -35,9 +35,9 @@ pub fn perform<V: Stock + Copy>(
     answers: &mut [V],
     saved: &mut [V],
 ) -> Result<(), Decline>
-    ensures outcome { result ≡ (performed (arithmetic_of draws stows) accesses.now (length words.old) (nth words.old) answers.old (length saved.old)).outcome }
-    ensures words { nth words.new ≡ (performed (arithmetic_of draws stows) accesses.now (length words.old) (nth words.old) answers.old (length saved.old)).words }
-    ensures answers { answers.new ≡ (performed (arithmetic_of draws stows) accesses.now (length words.old) (nth words.old) answers.old (length saved.old)).answers }
+    ensures outcome { result ≡ (performed (arithmetic_of V.draws V.stows) accesses.now (length words.old) (nth words.old) answers.old (length saved.old)).outcome }
+    ensures words { nth words.new ≡ (performed (arithmetic_of V.draws V.stows) accesses.now (length words.old) (nth words.old) answers.old (length saved.old)).words }
+    ensures answers { answers.new ≡ (performed (arithmetic_of V.draws V.stows) accesses.now (length words.old) (nth words.old) answers.old (length saved.old)).answers }
 {
     admit(words.len(), accesses, answers.len(), saved.len())?;
     run_saving(words, accesses, answers, saved)?;

@@ -20,9 +20,9 @@ pub fn step<V: Stock + Copy>(
     answers: &mut [V],
 ) -> Result<(), AccessFault>
     requires { (access.word < length words.old) × (place < length answers.old) }
-    ensures outcome { result ≡ ended place (answer (arithmetic_of draws stows) (nth words.old) access) }
-    ensures words { words.new ≡ words_after (answer (arithmetic_of draws stows) (nth words.old) access) access words.old }
-    ensures answers { answers.new ≡ answers_after (answer (arithmetic_of draws stows) (nth words.old) access) place access answers.old }
+    ensures outcome { result ≡ ended place (answer (arithmetic_of V.draws V.stows) (nth words.old) access) }
+    ensures words { words.new ≡ words_after (answer (arithmetic_of V.draws V.stows) (nth words.old) access) access words.old }
+    ensures answers { answers.new ≡ answers_after (answer (arithmetic_of V.draws V.stows) (nth words.old) access) place access answers.old }
 {
     let old = load(words, access.word as usize);
     match compute(AccessKind::from_number(access.kind), old, access.value) {

@@ -66,9 +66,9 @@ pub fn run_saving<V: Stock + Copy>(
     saved: &mut [V],
 ) -> Result<(), AccessFault>
     requires { (Ready (length words.old) accesses.now (length answers.old)) × (writes_in accesses.now ≤ length saved.old) }
-    ensures outcome { result ≡ (meaning (arithmetic_of draws stows) accesses.now (nth words.old) answers.old).result }
-    ensures words { nth words.new ≡ (meaning (arithmetic_of draws stows) accesses.now (nth words.old) answers.old).words }
-    ensures answers { answers.new ≡ (meaning (arithmetic_of draws stows) accesses.now (nth words.old) answers.old).answers }
+    ensures outcome { result ≡ (meaning (arithmetic_of V.draws V.stows) accesses.now (nth words.old) answers.old).result }
+    ensures words { nth words.new ≡ (meaning (arithmetic_of V.draws V.stows) accesses.now (nth words.old) answers.old).words }
+    ensures answers { answers.new ≡ (meaning (arithmetic_of V.draws V.stows) accesses.now (nth words.old) answers.old).answers }
 {
     let mut n: usize = 0;
     for i in 0..accesses.len() {

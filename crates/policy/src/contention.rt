@@ -64,7 +64,7 @@ impl ContentionManager for ByThread {
 pub struct ByClass<C>(pub C);
 
 impl<C: ContentionManager> ContentionManager for ByClass<C> {
-    ghost ahead = { λ m p q. by_class (C.ContentionManager.ahead m.0) p q };
+    ghost ahead = { λ m p q. by_class (C.ahead m.0) p q };
 
     ghost irreflexive = { Prim.search rules };
 
@@ -86,7 +86,7 @@ impl<C: ContentionManager> ContentionManager for ByClass<C> {
 pub struct Reversed<C>(pub C);
 
 impl<C: ContentionManager> ContentionManager for Reversed<C> {
-    ghost ahead = { λ m p q. reversed (C.ContentionManager.ahead m.0) p q };
+    ghost ahead = { λ m p q. reversed (C.ahead m.0) p q };
 
     ghost irreflexive = { Prim.search rules };
 

@@ -1,4 +1,6 @@
 // Examples of what the crate policy does, each proved safe and then run.
+#![tactic(auto)]
+
 #[cfg(test)]
 mod gates;
 #[cfg(test)]

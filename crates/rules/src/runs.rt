@@ -37,7 +37,7 @@ pub fn kinds_suffice<V: Stock, M: OrecMap, C: ContentionManager, G: Gate, P: Har
     gate: &G,
     path: &P,
 ) -> u8
-    ensures { EveryRun (policy_of draws stows (maps map.now) (ahead manager.now) (opens gate.now) (holds path.now)) }
+    ensures { EveryRun (policy_of V.draws V.stows (M.maps map.now) (C.ahead manager.now) (G.opens gate.now) (P.holds path.now)) }
 {
     0
 }

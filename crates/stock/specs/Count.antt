@@ -4,13 +4,13 @@
 --   count_draws   subtracts; short if too much is drawn
 --   count_stows   adds; over above 999,999
 use Rattle.std.specs.Prelude.{ℕ, ◌+◌, ◌-◌, min, cond, Some, None, Ok, Err, Option, Result, nat_le}
-use Rattle.std.proofs.Common.{arith}
+use Rattle.std.proofs.Math.Nat.{min-le_right}
 use Rattle.stock.specs.declared.fault.StockFault.{StockFault}
 use Rattle.stock.specs.declared.fault.StockFault.TheVariants.{Short, Over}
 use Rattle.stock.specs.declared.count.Count.{Count}
 
 abbrev pub counted : ℕ → Count
-counted n = record { value = min n 999999; within = omega arith }
+counted n = record { value = min n 999999; within = min-le_right n 999999 }
 
 abbrev pub count : ℕ → Option Count
 count n = cond (nat_le n 999999) (Some (counted n)) None

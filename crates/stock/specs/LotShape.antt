@@ -1,6 +1,6 @@
 -- Which batch and count make a lot.
 --   lot_sound   each at most 999,999, and batch 0 exactly when count 0
-use Rattle.std.specs.Prelude.{ℕ, Bool, true, false, cond, not, ◌&&◌, ◌==◌, nat_le}
+use Rattle.std.specs.Prelude.{ℕ, Bool, cond, not, ◌&&◌, ◌==◌, nat_le}
 
 abbrev same : Bool → Bool → Bool
 same a b = cond a b (not b)

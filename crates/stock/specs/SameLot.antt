@@ -1,12 +1,12 @@
 -- A Lot is known by its batch and its count, since the fact in its ghost field has one proof.
-use Rattle.std.specs.Prelude.{◌≡◌, ℕ, ◌+◌, ◌*◌, ◌/◌, ◌%◌, ◌<◌, ◌≤◌, Bool, true, false, Some, None, Option, refl}
-use Rattle.std.proofs.Common.{ap, subst, sym, ◌∙◌, arith}
+use Rattle.std.specs.Prelude.{◌≡◌, ℕ, ◌/◌, ◌%◌, ◌<◌, ◌≤◌, ◌^◌, Bool, true, false, Some, Option, refl}
+use Rattle.std.proofs.Common.{ap, sym, ◌∙◌, arith}
 use Rattle.std.proofs.Math.Bool.{Bool-set}
 use Rattle.std.specs.Option.{unwrap_or}
 use Rattle.std.proofs.lemmas.Bool.{and_parts, leb-true, both_ways}
 use Rattle.stock.specs.declared.lot.Lot.{Lot}
 use Rattle.stock.specs.LotShape.{lot_sound}
-use Rattle.stock.specs.Lot.{lot, lot_if, lotted, no_lot, lot_code}
+use Rattle.stock.specs.Lot.{lot, lot_if, lotted, no_lot, lot_code, lot_decode}
 
 if_sound : (b c : ℕ) (k : Bool) (e : lot_sound b c ≡ k) (h : lot_sound b c ≡ true) → lot_if b c k e ≡ Some (record { batch = b; count = c; sound = h })
 if_sound b c true e h = ap (λ (x : lot_sound b c ≡ true). Some (record { batch = b; count = c; sound = x })) (Bool-set (lot_sound b c) true e h)
@@ -38,3 +38,15 @@ code_batch l = omega (arith, batch_within l)
 
 pub code_count : (l : Lot) → lot_code l / 4294967296 ≡ l.count
 code_count l = omega (arith, batch_within l)
+
+-- the laws of a Lot's code
+pub lot_fits : (l : Lot) → lot_code l < 2 ^ 64
+lot_fits l = omega (arith, batch_within l, count_within l)
+
+pub lot_back : (l : Lot) → lot_decode (lot_code l) ≡ Some l
+lot_back l =
+    ap (λ (b : ℕ). lot b (lot_code l / 4294967296)) (code_batch l)
+    ∙ (ap (λ (c : ℕ). lot l.batch c) (code_count l) ∙ lot_is l.batch l.count l.sound)
+
+pub lot_sole : (n : ℕ) (l : Lot) → lot_decode n ≡ Some l → lot_code l ≡ n
+lot_sole n l e = let p = lot_parts (n % 4294967296) (n / 4294967296) l e in omega (arith, p.0, p.1)

@@ -7,7 +7,7 @@ use crate::kind::AccessKind;
 use crate::value::Stock;
 
 pub fn compute<V: Stock + Drop>(kind: Option<AccessKind>, old: V, given: V) -> Result<V, StockFault>
-    ensures { result ≡ computed (arithmetic_of draws stows) kind old given }
+    ensures { result ≡ computed (arithmetic_of V.draws V.stows) kind old given }
 {
     match kind {
         None | Some(AccessKind::Look) => Ok(old),

@@ -1,4 +1,6 @@
 // Stock values, and what an access makes of them.
+#![tactic(auto)]
+
 pub mod access;
 pub mod compute;
 pub mod count;

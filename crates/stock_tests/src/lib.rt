@@ -1,4 +1,6 @@
 // What drawing and stowing give, by table, for both kinds of stock.
+#![tactic(auto)]
+
 #[cfg(test)]
 mod counts;
 #[cfg(test)]

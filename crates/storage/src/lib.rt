@@ -1,4 +1,6 @@
 // Words on file: each word's code in 8 bytes, low byte first, and nothing else.
+#![tactic(auto)]
+
 ghost use Rattle.std.specs.Prelude.{◌≡◌, ◌+◌, ◌*◌, ◌≤◌, ◌++◌, length, take, drop, Ok};
 ghost use Rattle.std.specs.Option.{unwrap_or};
 ghost use Rattle.storage.specs.File.{bytes_of, code_of, file_of, loaded, measured, bad_place, checked, stored_file, loaded_result, words_or, loaded_words};
@@ -47,8 +49,8 @@ fn write_code(file: &mut [u8], word: usize, code: u64)
 
 fn write_codes<V: Stock + Copy>(words: &[V], file: &mut [u8])
     requires { length file.old ≡ 8 * length words.now }
-    ensures file { file.new ≡ file_of codes words.now }
-    ensures back { loaded decodes file.new ≡ Ok words.now }
+    ensures file { file.new ≡ file_of V.codes words.now }
+    ensures back { loaded V.decodes file.new ≡ Ok words.now }
 {
     for i in 0..words.len() {
         write_code(file, i, words[i].code());
@@ -58,7 +60,7 @@ fn write_codes<V: Stock + Copy>(words: &[V], file: &mut [u8])
 // The place of the first code that does not decode.
 fn first_bad<V: Stock + Copy>(file: &[u8], words: usize) -> Option<usize>
     requires { length file.now ≡ 8 * words }
-    ensures { result ≡ bad_place (loaded decodes file.now) }
+    ensures { result ≡ bad_place (loaded V.decodes file.now) }
 {
     for i in 0..words {
         if V::decode(read_code(file, i)).is_none() {
@@ -70,7 +72,7 @@ fn first_bad<V: Stock + Copy>(file: &[u8], words: usize) -> Option<usize>
 
 fn check_codes<V: Stock + Copy>(file: &[u8], words: usize) -> Result<(), Decline>
     requires { length file.now ≡ 8 * words }
-    ensures { result ≡ checked (loaded decodes file.now) }
+    ensures { result ≡ checked (loaded V.decodes file.now) }
 {
     match first_bad::<V>(file, words) {
         Some(place) => Err(Decline::Malformed(place)),
@@ -79,7 +81,7 @@ fn check_codes<V: Stock + Copy>(file: &[u8], words: usize) -> Result<(), Decline
 }
 
 fn read_word<V: Stock + Copy>(code: u64, word: V) -> V
-    ensures { result ≡ unwrap_or (decodes code) word }
+    ensures { result ≡ unwrap_or (V.decodes code) word }
 {
     match V::decode(code) {
         Some(value) => value,
@@ -89,9 +91,9 @@ fn read_word<V: Stock + Copy>(code: u64, word: V) -> V
 
 fn read_words<V: Stock + Copy>(file: &[u8], words: &mut [V])
     requires long { length file.now ≡ 8 * length words.old }
-    requires sound { checked (loaded decodes file.now) ≡ Ok tt }
-    ensures words { words.new ≡ words_or (loaded decodes file.now) words.old }
-    ensures form { file_of codes words.new ≡ file.now }
+    requires sound { checked (loaded V.decodes file.now) ≡ Ok tt }
+    ensures words { words.new ≡ words_or (loaded V.decodes file.now) words.old }
+    ensures form { file_of V.codes words.new ≡ file.now }
 {
     for i in 0..words.len() {
         words[i] = read_word(read_code(file, i), words[i]);
@@ -100,8 +102,8 @@ fn read_words<V: Stock + Copy>(file: &[u8], words: &mut [V])
 
 pub fn store<V: Stock + Copy>(words: &[V], file: &mut [u8]) -> Result<(), Decline>
     ensures outcome { result ≡ measured (length words.now) (length file.old) }
-    ensures file { file.new ≡ stored_file codes words.now file.old }
-    ensures back { result ≡ Ok tt → loaded decodes file.new ≡ Ok words.now }
+    ensures file { file.new ≡ stored_file V.codes words.now file.old }
+    ensures back { result ≡ Ok tt → loaded V.decodes file.new ≡ Ok words.now }
 {
     check_lengths(words.len(), file.len())?;
     write_codes(words, file);
@@ -110,9 +112,9 @@ pub fn store<V: Stock + Copy>(words: &[V], file: &mut [u8]) -> Result<(), Declin
 
 // Every code is checked before the first word is written.
 pub fn load<V: Stock + Copy>(file: &[u8], words: &mut [V]) -> Result<(), Decline>
-    ensures outcome { result ≡ loaded_result decodes (length words.old) file.now }
-    ensures words { words.new ≡ loaded_words decodes file.now words.old }
-    ensures form { result ≡ Ok tt → file_of codes words.new ≡ file.now }
+    ensures outcome { result ≡ loaded_result V.decodes (length words.old) file.now }
+    ensures words { words.new ≡ loaded_words V.decodes file.now words.old }
+    ensures form { result ≡ Ok tt → file_of V.codes words.new ≡ file.now }
 {
     let count = words.len();
     check_lengths(count, file.len())?;

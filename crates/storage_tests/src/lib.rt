@@ -1,4 +1,6 @@
 // Words on file: bad codes at every place, wrong lengths, and the round trip for both kinds of stock.
+#![tactic(auto)]
+
 #[cfg(test)]
 mod bad_codes;
 #[cfg(test)]

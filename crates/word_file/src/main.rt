@@ -1,4 +1,6 @@
 // Prints the filled words of a file of Counts.
+#![tactic(auto)]
+
 use std::io;
 use std::io::Read;
 use word_report::report::report;

@@ -1,4 +1,6 @@
 // What is printed of a file of Counts, byte for byte.
+#![tactic(auto)]
+
 pub mod report;
 mod tally;
 pub mod text;

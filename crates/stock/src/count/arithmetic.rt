@@ -1,8 +1,6 @@
-ghost use Rattle.std.specs.Prelude.{◌≡◌, ◌≤◌, Some, None, nat_le};
-ghost use Rattle.std.proofs.Common.{ap, ◌∙◌, rules, arith};
+ghost use Rattle.std.specs.Prelude.{◌≡◌, ◌≤◌};
 ghost use Rattle.stock.specs.Count.{count, counted, count_draws, count_stows};
-ghost use Rattle.std.proofs.lemmas.Bool.{cond-true, le-leb};
-ghost use Rattle.stock.specs.SameCount.{counted_value, count_value};
+ghost use Rattle.stock.specs.SameCount.{count_fits, count_back, count_value};
 
 use crate::count::Count;
 use crate::fault::StockFault;
@@ -44,11 +42,11 @@ impl Stock for Count {
 
     ghost decodes = { count };
 
-    ghost fits = { first_of (Prim.search rules, Prim.grind (arith, Self.row.coded.inj)) };
+    ghost fits = { count_fits };
 
-    ghost back = { λ v. cond-true (nat_le v.value 999999) (Some (counted v.value)) None (le-leb v.value 999999 v.within) ∙ ap Some (counted_value v) };
+    ghost back = { count_back };
 
-    ghost sole = { λ n v e. count_value n v e };
+    ghost sole = { count_value };
 
     fn draw(self, given: Count) -> Result<Count, StockFault> {
         if given.value <= self.value {

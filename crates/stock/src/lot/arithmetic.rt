@@ -1,8 +1,7 @@
-ghost use Rattle.std.specs.Prelude.{◌≡◌, ℕ, ◌/◌, ◌%◌, true};
-ghost use Rattle.std.proofs.Common.{ap, ◌∙◌, arith};
+ghost use Rattle.std.specs.Prelude.{◌≡◌, true};
 ghost use Rattle.stock.specs.LotShape.{lot_sound};
 ghost use Rattle.stock.specs.Lot.{lot, lotted, no_lot, lot_draws, lot_stows, lot_code, lot_decode};
-ghost use Rattle.stock.specs.SameLot.{batch_within, count_within, lot_is, code_batch, code_count, lot_parts};
+ghost use Rattle.stock.specs.SameLot.{lot_fits, lot_back, lot_sole};
 
 use crate::fault::StockFault;
 use crate::lot::Lot;
@@ -64,11 +63,11 @@ impl Stock for Lot {
 
     ghost decodes = { lot_decode };
 
-    ghost fits = { λ v. omega (arith, batch_within v, count_within v) };
+    ghost fits = { lot_fits };
 
-    ghost back = { λ v. ap (λ (b : ℕ). lot b (lot_code v / 4294967296)) (code_batch v) ∙ (ap (λ (c : ℕ). lot v.batch c) (code_count v) ∙ lot_is v.batch v.count v.sound) };
+    ghost back = { lot_back };
 
-    ghost sole = { λ n v e. let p = lot_parts (n % 4294967296) (n / 4294967296) v e in omega (arith, p.0, p.1) };
+    ghost sole = { lot_sole };
 
     fn draw(self, given: Lot) -> Result<Lot, StockFault> {
         if given.count == 0 {
