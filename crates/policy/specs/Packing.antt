@@ -5,7 +5,7 @@
 --     kept        a record that is well formed; nothing of another one
 --     kept_of     what is kept of a number at its mode, if it has one
 --     unpacked    the well-formed record that is read off a number, if there is one
-use Rattle.std.specs.Prelude.{ℕ, ◌+◌, ◌*◌, ◌/◌, ◌%◌, Bool, cond, Some, None, Option, ◌==◌}
+use Rattle.std.specs.Prelude.{ℕ, ◌+◌, ◌*◌, ◌/◌, ◌%◌, cond, Some, None, Option, ◌==◌}
 use Rattle.policy.specs.Orec.{mode_number, well_formed}
 use Rattle.policy.specs.declared.orec.Mode.{Mode}
 use Rattle.policy.specs.declared.orec.Mode.TheVariants.{Free, Read, Write}
