@@ -1,11 +1,11 @@
 -- What the limits count over shapes is what the runs count over accesses, step by step.
-use Rattle.std.specs.Prelude.{◌≡◌, ℕ, zero, suc, ◌+◌, ◌<◌, ◌≤◌, Bool, true, false, cond, not, ◌&&◌, List, [], ◌∷◌, ◌++◌, map, length, take, is_some, fold, slice_index_or, refl}
+use Rattle.std.specs.Prelude.{◌≡◌, ℕ, zero, suc, ◌+◌, ◌<◌, ◌≤◌, Bool, true, false, cond, not, ◌&&◌, List, [], ◌∷◌, ◌++◌, map, length, take, is_some, fold, slice_index_or, nat_le, refl}
 use Rattle.std.proofs.Common.{sym, ap, ◌∙◌, arith}
 use Rattle.std.specs.List.{AllByRecursion as All}
 use Rattle.std.proofs.ByRecursion.{All-push, All-get_or}
 use Rattle.std.proofs.lemmas.List.{length_push}
 use Rattle.std.proofs.lemmas.List.Sums.{fold_more}
-use Rattle.std.proofs.lemmas.Bool.{cond_both}
+use Rattle.std.proofs.lemmas.Bool.{cond_both, le-leb}
 use Rattle.stock.specs.declared.access.Access.{Access}
 use Rattle.stock.specs.Access.{writing_access}
 use Rattle.meaning.specs.Check.{Inside}
@@ -60,7 +60,7 @@ module _ {V : Type 0} where
   all_inside k bs (x ∷ xs) h i = all_inside k (with_word bs x) xs (one_inside k bs x h (i 0 x (omega arith))) (λ j d l. i (suc j) d (omega arith))
 
 -- one access fits every limit
-pub count_short : (s : List (ℕ × ℕ)) → length s ≤ 1 → write_count s ≤ 1
+count_short : (s : List (ℕ × ℕ)) → length s ≤ 1 → write_count s ≤ 1
 count_short [] h = omega arith
 count_short (x ∷ []) h = at_most (writing_shape x)
   where
@@ -69,8 +69,14 @@ count_short (x ∷ []) h = at_most (writing_shape x)
     at_most false = omega arith
 count_short (x ∷ (y ∷ s)) h = absurd (omega arith)
 
-pub words_short : (s : List (ℕ × ℕ)) → length s ≤ 1 → length (written_words s) ≤ 1
+words_short : (s : List (ℕ × ℕ)) → length s ≤ 1 → length (written_words s) ≤ 1
 words_short [] h = omega arith
 words_short (x ∷ []) h =
     cond_both (writing_shape x && not (is_some (place_from x.1 0 []))) (x.1 ∷ []) [] (λ (l : List ℕ). length l ≤ 1) (λ _. omega arith) (λ _. omega arith)
 words_short (x ∷ (y ∷ s)) h = absurd (omega arith)
+
+pub count_fits : (s : List (ℕ × ℕ)) → length s ≤ 1 → nat_le (write_count s) 32 ≡ true
+count_fits s h = le-leb _ 32 (omega (arith, count_short s h))
+
+pub words_fit : (s : List (ℕ × ℕ)) → length s ≤ 1 → nat_le (length (written_words s)) 16 ≡ true
+words_fit s h = le-leb _ 16 (omega (arith, words_short s h))

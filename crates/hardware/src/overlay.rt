@@ -30,8 +30,8 @@ fn peek<V: Copy>(words: &[V], places: &[u32], work: &[V], n: usize, word: u32) -
 
 // Sets a word's value aside, and says how many are.
 fn set_aside<V: Copy>(places: &mut [u32], work: &mut [V], n: usize, word: u32, value: V) -> usize
-    requires n_in_bounds { (n ≤ length places.old) × (n ≤ length work.old) }
-    requires n_in_bounds_2 { is_some (place_from word 0 (take n places.old)) ≡ false → (n < length places.old) × (n < length work.old) }
+    requires inside { (n ≤ length places.old) × (n ≤ length work.old) }
+    requires room { is_some (place_from word 0 (take n places.old)) ≡ false → (n < length places.old) × (n < length work.old) }
     ensures fits { (result ≤ length places.new) × (result ≤ length work.new) }
     ensures places { take result places.new ≡ listed (place_from word 0 (take n places.old)) word (take n places.old) }
     ensures work { take result work.new ≡ placed (place_from word 0 (take n places.old)) value (take n work.old) }
@@ -51,8 +51,8 @@ fn set_aside<V: Copy>(places: &mut [u32], work: &mut [V], n: usize, word: u32, v
 
 // Copies what is set aside to its words, the last first.
 pub fn copy_out<V: Copy>(words: &mut [V], places: &[u32], work: &[V], n: usize)
-    requires n_in_bounds { (n ≤ length places.now) × (n ≤ length work.now) }
-    requires by_index { (k : ℕ) → k < n → slice_index places.now k < length words.old }
+    requires inside { (n ≤ length places.now) × (n ≤ length work.now) }
+    requires words_inside { (k : ℕ) → k < n → slice_index places.now k < length words.old }
     ensures { words.new ≡ laid (take n places.now) (take n work.now) words.old }
 {
     let mut j = n;
@@ -73,8 +73,8 @@ pub fn step_aside<V: Stock + Copy>(
     work: &mut [V],
     n: usize,
 ) -> Result<usize, AccessFault>
-    requires word_in_bounds { (access.word < length words.now) × ((place < length answers.old) × ((n ≤ length places.old) × (n ≤ length work.old))) }
-    requires n_in_bounds { writing_access access ≡ true → is_some (place_from access.word 0 (take n places.old)) ≡ false → (n < length places.old) × (n < length work.old) }
+    requires inside { (access.word < length words.now) × ((place < length answers.old) × ((n ≤ length places.old) × (n ≤ length work.old))) }
+    requires room { writing_access access ≡ true → is_some (place_from access.word 0 (take n places.old)) ≡ false → (n < length places.old) × (n < length work.old) }
     ensures outcome { finished result ≡ ended place (answer (arithmetic_of V.draws V.stows) (nth (laid (take n places.old) (take n work.old) words.now)) access) }
     ensures words { IfOk result (λ m. laid (take m places.new) (take m work.new) words.now ≡ words_after (answer (arithmetic_of V.draws V.stows) (nth (laid (take n places.old) (take n work.old) words.now)) access) access (laid (take n places.old) (take n work.old) words.now)) }
     ensures answers { answers.new ≡ answers_after (answer (arithmetic_of V.draws V.stows) (nth (laid (take n places.old) (take n work.old) words.now)) access) place access answers.old }

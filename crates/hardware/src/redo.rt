@@ -7,9 +7,7 @@ ghost use Rattle.meaning.specs.Store.{nth};
 ghost use Rattle.hardware.specs.Path.{shapes};
 ghost use Rattle.hardware.specs.Limits.{written_words};
 ghost use Rattle.hardware.specs.Overlay.{with_word};
-ghost use Rattle.std.proofs.Common.{arith};
-ghost use Rattle.std.proofs.lemmas.Bool.{le-leb};
-ghost use Rattle.hardware.specs.Folding.{words_short};
+ghost use Rattle.hardware.specs.Folding.{words_fit};
 
 use crate::overlay::{copy_out, step_aside};
 use crate::path::HardwarePath;
@@ -85,7 +83,7 @@ pub struct RedoLog;
 impl HardwarePath for RedoLog {
     ghost holds = { λ _ s. nat_le (length (written_words s)) 16 };
 
-    ghost short = { λ p s h k. le-leb _ 16 (omega (arith, words_short s h)) };
+    ghost short = { λ p s h k. words_fit s h };
 
     fn fits<V>(&self, accesses: &[Access<V>]) -> bool {
         writes_few_words(accesses)

@@ -2,9 +2,7 @@
 ghost use Rattle.std.specs.Prelude.{◌≡◌, nat_le};
 ghost use Rattle.hardware.specs.Path.{shapes};
 ghost use Rattle.hardware.specs.Limits.{write_count};
-ghost use Rattle.std.proofs.Common.{arith};
-ghost use Rattle.std.proofs.lemmas.Bool.{le-leb};
-ghost use Rattle.hardware.specs.Folding.{count_short};
+ghost use Rattle.hardware.specs.Folding.{count_fits};
 
 use crate::path::HardwarePath;
 use decline::Decline;
@@ -34,7 +32,7 @@ pub struct UndoLog;
 impl HardwarePath for UndoLog {
     ghost holds = { λ _ s. nat_le (write_count s) 32 };
 
-    ghost short = { λ p s h k. le-leb _ 32 (omega (arith, count_short s h)) };
+    ghost short = { λ p s h k. count_fits s h };
 
     fn fits<V>(&self, accesses: &[Access<V>]) -> bool {
         count_writes(accesses) <= MAX_WRITES

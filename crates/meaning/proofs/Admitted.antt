@@ -1,5 +1,5 @@
 -- A transaction that passed its checks is ready, and it writes at most once an access.
-use Rattle.std.proofs.Common.{◌≡◌, ℕ, ◌+◌, ◌≤◌, Bool, true, false, cond, not, ◌||◌, eqb, List, [], ◌∷◌, length, Ok, Err, fold, Result, sym, refl, arith}
+use Rattle.std.proofs.Common.{◌≡◌, ℕ, ◌+◌, ◌≤◌, Bool, true, false, cond, not, eqb, List, [], ◌∷◌, length, Ok, Err, fold, Result, refl, arith}
 use Rattle.std.proofs.lemmas.Bool.{or_parts, not-false, eqb-true}
 use Rattle.stock.specs.declared.access.Access.{Access}
 use Rattle.decline.specs.declared.Decline.{Decline}

@@ -1,5 +1,5 @@
 -- One access more checked: what is left decides as before, or the one that failed decides.
-use Rattle.std.proofs.Common.{◌≡◌, ℕ, ◌+◌, ◌<◌, List, ◌∷◌, length, get_or, drop, Ok, Err, Result, sym, ap, ◌∙◌}
+use Rattle.std.proofs.Common.{◌≡◌, ℕ, ◌+◌, ◌<◌, List, length, get_or, drop, Ok, Err, Result, sym, ap, ◌∙◌}
 use Rattle.stock.specs.declared.access.Access.{Access}
 use Rattle.decline.specs.declared.Decline.{Decline}
 use Rattle.meaning.specs.Check.{and_then, check_access, checked}

@@ -6,9 +6,9 @@ use Rattle.storage.proofs.read_words.Goals as goal
 
 pub loop-i-preserved : goal.loop-i-preserved
 loop-i-preserved g c =
-    overlaid_more g.V.Stock.decodes _ _ _ c.loop-i.words c.loop-i.i c.index-words-i.result c.read-word.result _
+    overlaid_more g.V.Stock.decodes _ _ _ c.loop-i.words c.loop-i.i c.index-words-i.result c.read_word.result _
     (omega arith) c.index-words-i.is (codes_more (length c.args.words.now) c.loop-i.i c.args.file.now (omega arith))
-    (c.read-word.ensures ∙ ap (λ (n : ℕ). unwrap_or (g.V.Stock.decodes n) c.index-words-i.result) c.read-code.ensures)
+    (c.read_word.ensures ∙ ap (λ (n : ℕ). unwrap_or (g.V.Stock.decodes n) c.index-words-i.result) c.read_code.ensures)
     c.loop-i.invariant
 
 pub returns : goal.returns
@@ -21,5 +21,5 @@ returns g c =
     reads_words decodes file old new c.requires.long c.requires.sound (sym (overlaid_all decodes _ new c.loop-i.i (omega arith)) ∙ c.loop-i.invariant) in
     record {
       words = read;
-      form = reads_form g.V.Stock.codes decodes g.met.V.Stock.sole file old new (λ i. (c.type-inv.file i).fits) c.requires.long c.requires.sound read;
+      form = reads_form g.V.Stock.codes decodes g.met.V.Stock.sole file old new (λ i. (c.type_inv.file i).fits) c.requires.long c.requires.sound read;
     }

@@ -4,4 +4,4 @@ use Rattle.storage.proofs.write_code.Goals as goal
 
 pub returns : goal.returns
 returns c =
-    put_eight (8 * c.args.word) _ c.args.file.now _ _ (omega arith) (c.copy-from-slice.ensures.after ∙ c.bytes-of.ensures)
+    put_eight (8 * c.args.word) _ c.args.file.now _ _ (omega arith) (c.copy_from_slice.ensures.after ∙ c.bytes_of.ensures)

@@ -6,7 +6,7 @@ use Rattle.storage.proofs.write_codes.Goals as goal
 pub loop-i-preserved : goal.loop-i-preserved
 loop-i-preserved g c =
     file_more g.V.Stock.codes c.args.words.now c.loop-i.i c.index-words-i.result c.code.result c.loop-i.file
-    c.write-code.new.file _ (omega arith) c.index-words-i.is c.code.ensures (omega arith) c.write-code.ensures c.loop-i.invariant
+    c.write_code.new.file _ (omega arith) c.index-words-i.is c.code.ensures (omega arith) c.write_code.ensures c.loop-i.invariant
 
 pub returns : goal.returns
 returns g c =

@@ -17,7 +17,7 @@ returns-in-Err g c =
     let vs = take c.args.n c.args.work.now in
     let ws = laid bs vs c.args.words.now in
     let same : length bs ≡ length vs = length-take-le c.args.n c.args.places.now (search rules) ∙ sym (length-take-le c.args.n c.args.work.now (search rules)) in
-    let x = found A a bs vs c.args.words.now c.peek-old.result c.from-number.result _ same (search rules) c.peek-old.ensures c.from-number.ensures c.in-Err.ensures in
+    let x = found A a bs vs c.args.words.now c.peek-old.result c.from_number.result _ same (search rules) c.peek-old.ensures c.from_number.ensures c.in-Err.ensures in
     record {
       outcome = ap (ended c.args.place) x;
       words = tt;
@@ -26,36 +26,36 @@ returns-in-Err g c =
       places = tt;
     }
 
-pub returns-then-is-writing : goal.returns-then-is-writing
-returns-then-is-writing g c =
+pub returns-then-is_writing : goal.returns-then-is_writing
+returns-then-is_writing g c =
     let A = arithmetic_of g.V.Stock.draws g.V.Stock.stows in
     let a = c.args.access in
     let bs = take c.args.n c.args.places.now in
     let vs = take c.args.n c.args.work.now in
     let ws = laid bs vs c.args.words.now in
     let same : length bs ≡ length vs = length-take-le c.args.n c.args.places.now (search rules) ∙ sym (length-take-le c.args.n c.args.work.now (search rules)) in
-    let x = found A a bs vs c.args.words.now c.peek-old.result c.from-number.result _ same (search rules) c.peek-old.ensures c.from-number.ensures c.in-Ok.ensures in
-    let w = c.if-is-writing.ensures in
+    let x = found A a bs vs c.args.words.now c.peek-old.result c.from_number.result _ same (search rules) c.peek-old.ensures c.from_number.ensures c.in-Ok.ensures in
+    let w = c.if-is_writing.ensures in
     record {
       outcome = ap (ended c.args.place) x;
-      words = one_more_aside a.word bs vs c.args.words.now c.in-Ok.new _ _ same c.set-aside.ensures.places c.set-aside.ensures.work ∙
+      words = one_more_aside a.word bs vs c.args.words.now c.in-Ok.new _ _ same c.set_aside.ensures.places c.set_aside.ensures.work ∙
           (ap (λ (t : Bool). cond t (set ws a.word c.in-Ok.new) ws) w ∙ ap (λ (r : Result g.row.V.Denot StockFault). words_after r a ws) x);
       answers = ap (λ (t : Bool). cond t c.args.answers.now (set c.args.answers.now c.args.place c.in-Ok.new)) w ∙
           ap (λ (r : Result g.row.V.Denot StockFault). answers_after r c.args.place a c.args.answers.now) x;
       fits = search rules;
-      places = c.set-aside.ensures.places ∙ listed_with bs a w;
+      places = c.set_aside.ensures.places ∙ listed_with bs a w;
     }
 
-pub returns-else-is-writing : goal.returns-else-is-writing
-returns-else-is-writing g c =
+pub returns-else-is_writing : goal.returns-else-is_writing
+returns-else-is_writing g c =
     let A = arithmetic_of g.V.Stock.draws g.V.Stock.stows in
     let a = c.args.access in
     let bs = take c.args.n c.args.places.now in
     let vs = take c.args.n c.args.work.now in
     let ws = laid bs vs c.args.words.now in
     let same : length bs ≡ length vs = length-take-le c.args.n c.args.places.now (search rules) ∙ sym (length-take-le c.args.n c.args.work.now (search rules)) in
-    let x = found A a bs vs c.args.words.now c.peek-old.result c.from-number.result _ same (search rules) c.peek-old.ensures c.from-number.ensures c.in-Ok.ensures in
-    let w = c.if-is-writing.ensures in
+    let x = found A a bs vs c.args.words.now c.peek-old.result c.from_number.result _ same (search rules) c.peek-old.ensures c.from_number.ensures c.in-Ok.ensures in
+    let w = c.if-is_writing.ensures in
     record {
       outcome = ap (ended c.args.place) x;
       words = ap (λ (t : Bool). cond t (set ws a.word c.in-Ok.new) ws) w ∙ ap (λ (r : Result g.row.V.Denot StockFault). words_after r a ws) x;

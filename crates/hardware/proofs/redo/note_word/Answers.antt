@@ -11,7 +11,7 @@ returns g c =
     let a = c.args.access.now in
     let z : n - 0 ≡ n = omega arith in
     let new : is_some (place_from a.word 0 (take n bs)) ≡ false =
-    sym (c.if-is-some.ensures ∙ (ap is_some c.place-of.ensures.value ∙ ap (λ (k : ℕ). is_some (place_from a.word 0 (take k bs))) z)) in (
+    sym (c.if-is_some.ensures ∙ (ap is_some c.place_of.ensures.value ∙ ap (λ (k : ℕ). is_some (place_from a.word 0 (take k bs))) z)) in (
       omega arith,
-      take_more_set bs n a.word (omega arith) ∙ sym (listed_new (take n bs) a (sym c.if-not-is-writing.ensures) new),
+      take_more_set bs n a.word (omega arith) ∙ sym (listed_new (take n bs) a (sym c.if-not-is_writing.ensures) new),
     )

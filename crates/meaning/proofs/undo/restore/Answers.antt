@@ -1,4 +1,4 @@
-use Rattle.std.proofs.Common.{◌≡◌, ℕ, ◌+◌, ◌-◌, ◌<◌, ◌≤◌, List, reverse, length, take, sym, ap, ◌∙◌, subst, arith}
+use Rattle.std.proofs.Common.{◌≡◌, ℕ, ◌+◌, ◌-◌, ◌<◌, List, reverse, length, take, sym, ap, ◌∙◌, subst, arith}
 use Rattle.std.proofs.lemmas.List.{take_all}
 use Rattle.stock.specs.declared.access.Access.{Access}
 use Rattle.meaning.specs.Undo.{writes_in, last_first, undone}
@@ -14,8 +14,8 @@ loop-i-init g c =
       ap (λ (x : List (Access g.row.V.Denot)). undone (last_first x) (reverse (take c.args.n c.args.saved.now)) c.args.words.now) all,
     )
 
-pub restore-one-left-requires : goal.restore-one-left-requires
-restore-one-left-requires g c =
+pub restore_one-left-requires : goal.restore_one-left-requires
+restore_one-left-requires g c =
     let xs = c.args.accesses.now in
     let a = c.index-accesses-i.result in
     let i = c.loop-i.i in
@@ -31,9 +31,9 @@ loop-i-preserved g c =
     let xs = c.args.accesses.now in
     let i = c.loop-i.i in
     let m : (i - 1) + 1 ≡ i = omega arith in
-    let e = c.restore-one-left.ensures in
+    let e = c.restore_one-left.ensures in
     let p = restored_one xs (i - 1) c.index-accesses-i.result (omega arith) c.index-accesses-i.is
-    c.args.saved.now c.loop-i.left c.restore-one-left.result c.loop-i.words c.restore-one-left.new.words _
+    c.args.saved.now c.loop-i.left c.restore_one-left.result c.loop-i.words c.restore_one-left.new.words _
     (omega (arith, writes_le xs i)) (c.loop-i.invariant.1 ∙ ap (λ (k : ℕ). writes_in (take k xs)) (sym m)) e.count e.words
     (ap (λ (k : ℕ). undone (last_first (take k xs)) (reverse (take c.loop-i.left c.args.saved.now)) c.loop-i.words) m ∙ c.loop-i.invariant.2) in
     (omega arith, p.0, p.1)

@@ -1,10 +1,10 @@
-use Rattle.std.proofs.Common.{◌≡◌, ℕ, ◌+◌, ◌-◌, ◌<◌, ◌≤◌, List, reverse, length, take, sym, refl, ap, ◌∙◌, subst, arith}
+use Rattle.std.proofs.Common.{◌≡◌, ℕ, ◌+◌, ◌-◌, ◌<◌, ◌≤◌, reverse, length, take, sym, refl, ap, ◌∙◌, subst, arith}
 use Rattle.std.proofs.lemmas.List.{get_or-take, length-take}
 use Rattle.stock.specs.declared.access.Access.{Access}
 use Rattle.stock.specs.Access.{writing_access}
 use Rattle.stock.specs.Arithmetic.{arithmetic_of}
-use Rattle.meaning.specs.Meaning.{Meaning, meaning, answer}
-use Rattle.meaning.specs.Store.{Store, nth}
+use Rattle.meaning.specs.Meaning.{Meaning, answer}
+use Rattle.meaning.specs.Store.{nth}
 use Rattle.meaning.specs.Undo.{one, writes_in, last_first, undone}
 use Rattle.meaning.proofs.Course.{goes_on, ends_here, all_done}
 use Rattle.meaning.proofs.Passed.{ready_inside, ready_places, ready_word}
@@ -89,7 +89,7 @@ loop-i-preserved g c =
     let word : a.word < length c.loop-i.words = omega (arith, ready_word (length c.args.words.now) (length c.args.answers.now) xs c.requires.0 i a h c.index-accesses-i.is) in (
       s.count ∙ omega (arith, next, c.loop-i.invariant.0),
       goes_on A first xs i a h c.index-accesses-i.is c.loop-i.words c.loop-i.answers c.step.new.words c.step.new.answers c.step.result _ _
-          word e.outcome c.in-default.is e.words e.answers c.loop-i.invariant.1,
+          word e.outcome c.in_default.is e.words e.answers c.loop-i.invariant.1,
       saved_one xs i a h c.index-accesses-i.is c.loop-i.saved c.save-n.new.saved c.loop-i.n c.save-n.result c.loop-i.words c.step.new.words _
           (answer A (nth c.loop-i.words) a) room s.count s.saved e.words c.loop-i.invariant.2,
     )

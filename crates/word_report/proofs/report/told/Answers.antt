@@ -4,9 +4,9 @@ use Rattle.word_report.proofs.report.told.Goals as goal
 
 pub returns-in-Ok : goal.returns-in-Ok
 returns-in-Ok c =
-    subst (λ (bs : List ℕ). IfOk c.words-text.result (λ s. string_bytes s ≡ bs))
+    subst (λ (bs : List ℕ). IfOk c.words_text.result (λ s. string_bytes s ≡ bs))
     (granted_report c.args.bytes.now c.args.words.now c.load.new.words c.requires c.in-Ok.ensures.outcome c.in-Ok.ensures.words)
-    c.words-text.ensures
+    c.words_text.ensures
 
 pub returns-in-Err : goal.returns-in-Err
 returns-in-Err c =

@@ -7,21 +7,21 @@ use Rattle.hardware.specs.Folding.{count_is}
 use Rattle.hardware.proofs.RunFit.{faulted, granted}
 use Rattle.hardware.proofs.undo.UndoLogHardwarePath.run.Goals as goal
 
-pub run-saving-requires : goal.run-saving-requires
-run-saving-requires g c =
+pub run_saving-requires : goal.run_saving-requires
+run_saving-requires g c =
     (c.requires.ready, omega (arith, count_is c.args.accesses.now, leb-true _ 32 (sym c.if-not-fits.ensures), c.requires.work))
 
-pub returns-in-err-run-saving : goal.returns-in-err-run-saving
-returns-in-err-run-saving g c =
-    let p = err_from_is_err_and c.from-residual.result c.from-residual.ensures.1 in
-    let e = c.in-err-run-saving.ensures in
+pub returns-in_err-run_saving : goal.returns-in_err-run_saving
+returns-in_err-run_saving g c =
+    let p = err_from_is_err_and c.from_residual.result c.from_residual.ensures.1 in
+    let e = c.in_err-run_saving.ensures in
     let f = faulted (arithmetic_of g.V.Stock.draws g.V.Stock.stows) c.args.accesses.now (nth c.args.words.now) c.args.answers.now _ _ _ _
     (sym c.if-not-fits.ensures) e.outcome e.words e.answers in
     record { outcome = p.1 ∙ rw p.2 f.0; words = f.1; answers = f.2 }
 
 pub returns : goal.returns
 returns g c =
-    let e = c.in-ok-run-saving.ensures in
+    let e = c.in_ok-run_saving.ensures in
     let f = granted (arithmetic_of g.V.Stock.draws g.V.Stock.stows) c.args.accesses.now (nth c.args.words.now) c.args.answers.now _ _ _
     (sym c.if-not-fits.ensures) e.outcome e.words e.answers in
     record { outcome = f.0; words = f.1; answers = f.2 }
