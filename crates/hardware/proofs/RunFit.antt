@@ -1,7 +1,6 @@
 -- A path that has done the meaning of a transaction that fits has done what it promises.
 use Rattle.std.proofs.Common.{◌≡◌, Bool, true, List, Ok, Err, Result, sym, ap, ◌∙◌}
 use Rattle.stock.specs.declared.access.Access.{Access}
-use Rattle.decline.specs.declared.Decline.{Decline}
 use Rattle.decline.specs.declared.Decline.TheVariants.{Stock}
 use Rattle.stock.specs.declared.fault.AccessFault.{AccessFault}
 use Rattle.stock.specs.Arithmetic.{Arithmetic}

@@ -5,7 +5,7 @@
 --   listed      the word numbers after one is set aside, told its place
 --   with_word   the word numbers after an access
 --   finished    a count of words set aside, or the fault, without the count
-use Rattle.std.specs.Prelude.{ℕ, List, [], ◌∷◌, ◌++◌, set, Some, None, Ok, Err, Option, Result, slice_set}
+use Rattle.std.specs.Prelude.{ℕ, List, [], ◌∷◌, ◌++◌, Some, None, Ok, Err, Option, Result, slice_set}
 use Rattle.stock.specs.declared.access.Access.{Access}
 use Rattle.stock.specs.declared.fault.AccessFault.{AccessFault}
 use Rattle.meaning.specs.Store.{nth}

@@ -1,5 +1,5 @@
 -- A step of an active transaction is answered.
-use Rattle.std.proofs.Common.{◌≡◌, ℕ, ◌+◌, ◌*◌, ◌<◌, Bool, true, false, cond, eqb, List, [], ◌∷◌, ◌++◌, length, Some, Ok, Result, unwrap_or, sym, refl, ap, ◌∙◌, subst, ⊎_elim, arith}
+use Rattle.std.proofs.Common.{◌≡◌, ℕ, ◌+◌, ◌*◌, ◌<◌, Bool, true, false, cond, List, [], ◌∷◌, ◌++◌, length, Some, Ok, Result, unwrap_or, sym, refl, ap, ◌∙◌, subst, ⊎_elim, arith}
 use Rattle.meaning.specs.Meaning.{answer}
 use Rattle.meaning.specs.Store.{Store, put}
 use Rattle.policy.specs.declared.orec.Mode.TheVariants.{Write}
@@ -11,11 +11,11 @@ use Rattle.rules.specs.Machine.{Machine, drafted}
 use Rattle.rules.specs.Policy.{Policy}
 use Rattle.rules.specs.Replay.{Answered, effect, replayed, stored}
 use Rattle.rules.specs.State.{Descriptor, owns_to_write, with_writes}
-use Rattle.rules.specs.Tests.{is_committed, is_idle}
+use Rattle.rules.specs.Tests.{is_committed}
 use Rattle.rules.specs.WriteSet.{has, place, with}
 use Rattle.rules.specs.declared.descriptor.Status.TheVariants.{Active}
 use Rattle.std.proofs.ByRecursion.{All-push, All-weaker}
-use Rattle.std.proofs.lemmas.Bool.{cases_Bool, cases_eq, cond-false, cond-true, false≢true}
+use Rattle.std.proofs.lemmas.Bool.{cases_Bool, cases_eq, cond-false, cond-true}
 use Rattle.std.specs.List.{AllByRecursion as All}
 use Rattle.stock.specs.Access.{writing_access}
 use Rattle.stock.specs.Arithmetic.{computed}

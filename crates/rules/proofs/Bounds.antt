@@ -1,8 +1,8 @@
 -- What a sound state is made of, and that a new state has it and each elementary change keeps it, from the core of Inv, Take and Release.
-use Rattle.std.proofs.Common.{◌≡◌, ℕ, zero, suc, ◌+◌, ◌<◌, ◌≤◌, Bool, true, false, eqb, ltb, [], ◌∷◌, ◌++◌, length, is_some, Some, None, Option, sym, refl, ap, ◌∙◌, subst, ⊎_elim, arith}
+use Rattle.std.proofs.Common.{◌≡◌, ℕ, zero, suc, ◌+◌, ◌<◌, ◌≤◌, Bool, true, false, [], ◌∷◌, ◌++◌, length, is_some, Some, None, Option, sym, refl, ap, ◌∙◌, subst, ⊎_elim, arith}
 use Rattle.std.specs.List.{AllByRecursion as All}
 use Rattle.std.proofs.ByRecursion.{All-push}
-use Rattle.std.proofs.lemmas.Bool.{cases_eq, cond_both, eqb-false, false≢true, ltb-false}
+use Rattle.std.proofs.lemmas.Bool.{cases_eq, cond_both, false≢true}
 use Rattle.meaning.specs.Store.{put}
 use Rattle.meaning.specs.Undo.{one}
 use Rattle.policy.specs.declared.orec.Mode.TheVariants.{Write}
@@ -15,7 +15,7 @@ use Rattle.rules.specs.ReadSet.{seen_of, size}
 use Rattle.rules.specs.Sound.{SoundPriority, gone}
 use Rattle.rules.specs.State.{Descriptor, State, idle, new_state, with_reads, with_status, with_writes, with_written_back}
 use Rattle.rules.specs.Tables.{tally, total}
-use Rattle.rules.specs.Tests.{is_active, is_committed, is_idle, is_read, is_write}
+use Rattle.rules.specs.Tests.{is_committed, is_idle, is_read, is_write}
 use Rattle.rules.specs.WriteSet.{has, with}
 use Rattle.rules.proofs.Basics.{put_at, put_other, put_same}
 use Rattle.rules.proofs.Alone.{inv_aborted, inv_backed, inv_begun, inv_listed}

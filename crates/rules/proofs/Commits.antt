@@ -1,5 +1,5 @@
 -- The outcomes tell which transactions are committed, by the ways that a call can end.
-use Rattle.std.proofs.Common.{◌≡◌, ℕ, ◌+◌, ◌-◌, ◌<◌, Bool, true, false, cond, ltb, List, [], length, get_or, None, Ok, Err, Result, unwrap_or, sym, refl, ap, ◌∙◌, arith}
+use Rattle.std.proofs.Common.{◌≡◌, ℕ, ◌+◌, ◌-◌, ◌<◌, Bool, true, false, cond, ltb, List, [], length, None, Ok, Err, Result, unwrap_or, sym, refl, ap, ◌∙◌, arith}
 use Rattle.std.proofs.lemmas.Bool.{cond_both, lt-ltb}
 use Rattle.stock.specs.Access.{writing_access}
 use Rattle.stock.specs.Arithmetic.{computed}
@@ -8,13 +8,13 @@ use Rattle.stock.specs.declared.access.Access.{Access}
 use Rattle.stock.specs.declared.fault.StockFault.{StockFault}
 use Rattle.decline.specs.declared.Decline.{Decline}
 use Rattle.meaning.specs.Store.{put}
-use Rattle.rules.specs.declared.descriptor.Status.TheVariants.{Aborted, Active}
+use Rattle.rules.specs.declared.descriptor.Status.TheVariants.{Aborted}
 use Rattle.rules.specs.Accessing.{answered, performed, seen}
 use Rattle.rules.specs.Changes.{aborted_by, ended_by, read_by, written_by}
 use Rattle.rules.specs.Parts.{kept, newly_begun}
 use Rattle.rules.specs.Contention.{acquired, takes, waits_for}
 use Rattle.rules.specs.Course.{told}
-use Rattle.rules.specs.Machine.{Machine, copied, drafted, on}
+use Rattle.rules.specs.Machine.{Machine, drafted, on}
 use Rattle.rules.specs.Next.{next}
 use Rattle.rules.specs.Outcome.{Outcome, declined}
 use Rattle.rules.specs.Policy.{Policy}
@@ -23,7 +23,7 @@ use Rattle.rules.specs.State.{Descriptor, State, idle, with_status, with_written
 use Rattle.rules.specs.Tests.{is_committed}
 use Rattle.rules.proofs.Basics.{put_at, put_other, put_put, put_same}
 use Rattle.rules.proofs.Bounds.{Steady}
-use Rattle.rules.proofs.Ways.{Admitted, Plain, access_ways, back_ways, begin_ways, cancel_ways, cleared_ways, commit_ways, hardware_ways}
+use Rattle.rules.proofs.Ways.{Plain, access_ways, back_ways, begin_ways, cancel_ways, cleared_ways, commit_ways, hardware_ways}
 
 module _ {V : Type 0} (P : Policy V) (m : Machine V) (st : Steady m.state) (w : ℕ → Bool) (agree : (t : ℕ) → is_committed (m.state.descriptors t).status ≡ w t) where
   abbrev g : ℕ → Descriptor

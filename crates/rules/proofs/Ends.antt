@@ -1,5 +1,5 @@
 -- A transaction commits or ends.
-use Rattle.std.proofs.Common.{◌≡◌, ℕ, ◌+◌, ◌*◌, ◌<◌, Bool, true, false, eqb, leb, length, is_some, None, sym, refl, ap, ◌∙◌, ⊎_elim, arith}
+use Rattle.std.proofs.Common.{◌≡◌, ℕ, ◌+◌, ◌*◌, ◌<◌, Bool, true, false, leb, is_some, sym, refl, ap, ◌∙◌, ⊎_elim, arith}
 use Rattle.meaning.specs.Store.{put}
 use Rattle.policy.specs.declared.orec.OwnershipRecord.{OwnershipRecord}
 use Rattle.rules.proofs.Machines.{finish, keep}
@@ -15,7 +15,7 @@ use Rattle.rules.specs.Sound.{gone, pair}
 use Rattle.rules.specs.State.{Descriptor, idle, owns_to_write}
 use Rattle.rules.specs.Tests.{is_active, is_committed, is_read}
 use Rattle.rules.specs.WriteSet.{has, place}
-use Rattle.rules.specs.declared.descriptor.Status.TheVariants.{Active, Committed}
+use Rattle.rules.specs.declared.descriptor.Status.TheVariants.{Active}
 use Rattle.std.proofs.ByRecursion.{All-weaker}
 use Rattle.std.proofs.lemmas.Bool.{and_from, and_parts, and_right, cases_Bool, cond-false, cond-true, false≢true, le-leb, or_cases}
 use Rattle.std.specs.List.{AllByRecursion as All}

@@ -1,8 +1,7 @@
 -- Steps on two stores that agree on some words, all those of the steps among them.
-use Rattle.std.proofs.Common.{◌≡◌, ℕ, Bool, true, false, cond, not, eqb, List, [], ◌∷◌, ◌++◌, Some, Ok, Err, Result, unwrap_or, sym, refl, ap, ◌∙◌, subst, ⊎_elim}
+use Rattle.std.proofs.Common.{◌≡◌, ℕ, Bool, true, false, cond, List, [], ◌∷◌, ◌++◌, Some, Ok, Err, Result, unwrap_or, sym, refl, ap, ◌∙◌, subst, ⊎_elim}
 use Rattle.meaning.specs.Meaning.{answer, after}
 use Rattle.meaning.specs.Store.{Store, put}
-use Rattle.rules.specs.Machine.{on}
 use Rattle.rules.specs.Replay.{Answered, Replays, effect, replayed, stored}
 use Rattle.std.proofs.lemmas.Bool.{both_ways, cases_Bool, cond-false}
 use Rattle.std.specs.List.{AllByRecursion as All}

@@ -1,38 +1,28 @@
 -- A granted hardware transaction: it runs on the words as on the ledger's figures, and leaves the logical values that the ledger has.
-use Rattle.std.proofs.Common.{◌≡◌, ℕ, zero, suc, ◌+◌, ◌<◌, ◌≤◌, Bool, true, false, cond, not, ◌||◌, List, [], ◌∷◌, is_some, Some, None, Ok, Err, Result, sym, refl, ap, ◌∙◌, subst, ⊎_elim, arith}
+use Rattle.std.proofs.Common.{◌≡◌, ℕ, zero, suc, ◌+◌, ◌<◌, Bool, true, false, not, List, [], ◌∷◌, is_some, Ok, Err, Result, sym, refl, ap, ◌∙◌, subst, ⊎_elim, arith}
 use Rattle.std.proofs.ByRecursion.{All-weaker}
-use Rattle.std.proofs.lemmas.Bool.{cases_Bool, cases_eq, cond-false, cond-true, false≢true, or_cases, true≢false}
+use Rattle.std.proofs.lemmas.Bool.{cases_Bool, cond-false, cond-true, false≢true, or_cases, true≢false}
 use Rattle.std.specs.List.{AllByRecursion as All}
 use Rattle.stock.specs.declared.access.Access.{Access}
-use Rattle.stock.specs.declared.fault.AccessFault.{AccessFault}
 use Rattle.stock.specs.declared.fault.StockFault.{StockFault}
 use Rattle.stock.specs.Access.{writing_access}
 use Rattle.decline.specs.declared.Decline.{Decline}
-use Rattle.decline.specs.declared.Decline.TheVariants.{GateClosed, Stock}
+use Rattle.decline.specs.declared.Decline.TheVariants.{GateClosed}
 use Rattle.meaning.specs.Meaning.{Meaning, after, answer, by_result, from, meaning, noted}
-use Rattle.meaning.specs.Perform.{as_decline, concluded}
 use Rattle.meaning.specs.Store.{Store}
-use Rattle.meaning.specs.Undo.{one}
 use Rattle.policy.specs.declared.orec.Mode.{Mode}
 use Rattle.policy.specs.declared.orec.Mode.TheVariants.{Free, Read, Write}
 use Rattle.policy.specs.declared.orec.OwnershipRecord.{OwnershipRecord}
 use Rattle.rules.specs.declared.descriptor.Status.TheVariants.{Idle}
-use Rattle.rules.specs.Hardware.{ending, gated, outcome_of, unless}
+use Rattle.rules.specs.Hardware.{gated}
 use Rattle.rules.specs.Ledger.{Ledger}
 use Rattle.rules.specs.Logical.{logical, pends}
 use Rattle.rules.specs.Machine.{Machine, with_words}
-use Rattle.rules.specs.Outcome.{Outcome, declined, ran}
 use Rattle.rules.specs.Policy.{Laws, Policy}
-use Rattle.rules.specs.ReadSet.{reads_it}
-use Rattle.rules.specs.Sound.{readers_of}
 use Rattle.rules.specs.State.{Descriptor, owns_to_write, under_way}
-use Rattle.rules.specs.Tables.{tally}
-use Rattle.rules.specs.Tests.{is_active, is_free, is_idle, is_read, is_write}
-use Rattle.rules.proofs.Basics.{never}
+use Rattle.rules.specs.Tests.{is_active, is_free, is_read, is_write}
 use Rattle.rules.proofs.Frame.{after_apart, after_frame, answer_frame}
-use Rattle.rules.proofs.Inv.{Inv}
 use Rattle.rules.proofs.Logicals.{none_logical, pends_not, same_logical}
-use Rattle.rules.proofs.Modes.{idle_from}
 use Rattle.rules.proofs.Moves.{turn_desc}
 use Rattle.rules.proofs.Parts.{under_way_none}
 use Rattle.rules.proofs.Release.{owned_is}

@@ -1,5 +1,5 @@
 -- What an outcome says, and who gives way to a request.
-use Rattle.std.proofs.Common.{◌≡◌, ℕ, ◌<◌, Bool, true, cond, Some, None, Ok, Result}
+use Rattle.std.proofs.Common.{◌≡◌, ℕ, ◌<◌, Bool, true, cond, Some, Ok, Result}
 use Rattle.meaning.specs.Meaning.{meaning}
 use Rattle.rules.specs.Ledger.{Ledger}
 use Rattle.rules.specs.Logical.{logical}

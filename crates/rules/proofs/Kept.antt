@@ -1,5 +1,5 @@
 -- Every request keeps a sound state, by the ways that a call can end and the elementary changes of Bounds; with what Parts says of a sound state this is the theorem.
-use Rattle.std.proofs.Common.{◌≡◌, ℕ, ◌+◌, ◌-◌, ◌<◌, Bool, true, false, cond, not, ◌&&◌, leb, List, [], length, is_some, None, Ok, Err, Result, unwrap_or, sym, refl, ap, ◌∙◌, subst, ⊎_elim, arith}
+use Rattle.std.proofs.Common.{◌≡◌, ℕ, ◌<◌, Bool, true, false, cond, not, ◌&&◌, leb, List, [], length, is_some, None, Ok, Err, Result, unwrap_or, sym, refl, ap, ◌∙◌, subst, ⊎_elim, arith}
 use Rattle.std.proofs.lemmas.Bool.{and_cases, cond_both, cond-false, cond-true, leb-false}
 use Rattle.stock.specs.Access.{writing_access}
 use Rattle.stock.specs.Arithmetic.{computed}
@@ -12,7 +12,7 @@ use Rattle.policy.specs.declared.orec.OwnershipRecord.{OwnershipRecord}
 use Rattle.rules.specs.declared.descriptor.Status.TheVariants.{Aborted, Active}
 use Rattle.rules.specs.Accessing.{answered, performed, seen}
 use Rattle.rules.specs.Changes.{aborted_by, ended_by, read_by, written_by}
-use Rattle.rules.specs.Contention.{acquired, full, takes, waits_for}
+use Rattle.rules.specs.Contention.{acquired, takes, waits_for}
 use Rattle.rules.specs.Machine.{Machine, drafted, on}
 use Rattle.rules.specs.Next.{next}
 use Rattle.rules.specs.Outcome.{Outcome, declined}
@@ -26,7 +26,7 @@ use Rattle.rules.specs.WriteSet.{has}
 use Rattle.rules.proofs.Basics.{never, put_other, put_same}
 use Rattle.rules.proofs.Bounds.{Steady, state_aborted, state_backed, state_begun, state_ended, state_kept, state_last, state_listed, state_new, state_read, state_written}
 use Rattle.rules.proofs.Parts.{all_free, sound_from, state_from}
-use Rattle.rules.proofs.Ways.{Admitted, Plain, Standing, access_ways, another, back_ways, begin_ways, cancel_ways, cleared_ways, commit_ways, hardware_ways, unread}
+use Rattle.rules.proofs.Ways.{Admitted, Plain, access_ways, another, back_ways, begin_ways, cancel_ways, cleared_ways, commit_ways, hardware_ways, unread}
 
 -- an admitted access that writes has room for its word, and one that takes an orec to read has room for a snapshot
 module _ {V : Type 0} (P : Policy V) (m : Machine V) (t : ℕ) (a : Access V) (ad : Admitted P m t a) where

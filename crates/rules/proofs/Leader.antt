@@ -1,7 +1,6 @@
 -- Whenever some transactions are active, one precedes every other: among the threads below n, by induction on n.
-use Rattle.std.proofs.Common.{◌≡◌, ℕ, zero, suc, ◌<◌, true, false, not, ◌⊎◌, sym, refl, ap, ◌∙◌, subst, inl, inr, ⊎_elim, arith}
+use Rattle.std.proofs.Common.{◌≡◌, ℕ, zero, suc, ◌<◌, true, false, not, ◌⊎◌, sym, ap, ◌∙◌, subst, inl, inr, ⊎_elim, arith}
 use Rattle.std.proofs.lemmas.Bool.{both_ways, cases_Bool, cases_eq, false≢true}
-use Rattle.policy.specs.Priority.{Possible}
 use Rattle.rules.specs.declared.descriptor.Status.TheVariants.{Active}
 use Rattle.rules.specs.Machine.{Machine}
 use Rattle.rules.specs.Outside.{Foremost, IsActive, Precedes}

@@ -1,5 +1,5 @@
 -- Logical values.
-use Rattle.std.proofs.Common.{◌≡◌, ℕ, zero, suc, ◌+◌, ◌*◌, ◌<◌, true, false, not, ◌&&◌, leb, sym, refl, ap, ◌∙◌, subst, ⊎_elim, arith}
+use Rattle.std.proofs.Common.{◌≡◌, ℕ, zero, suc, ◌+◌, ◌*◌, ◌<◌, true, false, ◌&&◌, leb, sym, refl, ap, ◌∙◌, subst, ⊎_elim, arith}
 use Rattle.policy.specs.declared.orec.Mode.TheVariants.{Write}
 use Rattle.policy.specs.declared.orec.OwnershipRecord.{OwnershipRecord}
 use Rattle.rules.specs.Logical.{logical_below, pends}

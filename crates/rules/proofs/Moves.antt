@@ -1,10 +1,9 @@
 -- Each elementary change of a memory keeps it good.
-use Rattle.std.proofs.Common.{◌≡◌, ℕ, ◌+◌, ◌*◌, ◌<◌, true, false, ◌&&◌, ◌||◌, leb, [], is_some, Some, None, Option, sym, refl, ap, ◌∙◌, subst, arith}
+use Rattle.std.proofs.Common.{◌≡◌, ℕ, ◌+◌, ◌*◌, ◌<◌, true, false, ◌&&◌, ◌||◌, leb, [], is_some, Some, None, Option, sym, refl, ap, ◌∙◌, subst}
 use Rattle.meaning.specs.Store.{put}
 use Rattle.policy.specs.declared.orec.Mode.TheVariants.{Write}
 use Rattle.policy.specs.declared.orec.OwnershipRecord.{OwnershipRecord}
 use Rattle.rules.proofs.Machines.{abort, opened, take_read, take_write}
-use Rattle.rules.specs.Course.{start}
 use Rattle.rules.specs.Ledger.{Ledger}
 use Rattle.rules.specs.Logical.{logical, pends}
 use Rattle.rules.specs.Machine.{Machine}
@@ -13,7 +12,7 @@ use Rattle.rules.specs.ReadSet.{matches, seen_of}
 use Rattle.rules.specs.Sound.{Snap, gone, pair}
 use Rattle.rules.specs.State.{Descriptor, owns_to_write, with_reads, with_status}
 use Rattle.rules.specs.Parts.{exclusive, newly_begun, shared}
-use Rattle.rules.specs.Tests.{is_active, is_committed, is_idle, is_read}
+use Rattle.rules.specs.Tests.{is_active, is_committed, is_read}
 use Rattle.rules.specs.WriteSet.{has, place}
 use Rattle.rules.specs.declared.descriptor.Seen.{Seen}
 use Rattle.rules.specs.declared.descriptor.Status.TheVariants.{Aborted, Active, Idle}

@@ -1,6 +1,6 @@
 -- Who gives way to a request, and who is never told to wait, by the ways that a call can end.
-use Rattle.std.proofs.Common.{◌≡◌, ℕ, zero, suc, ◌+◌, ◌<◌, Bool, true, false, cond, not, ◌&&◌, ◌||◌, leb, List, [], get_or, Some, None, Ok, Err, Option, Result, unwrap_or, sym, refl, ap, ◌∙◌, subst, ⊎_elim, arith}
-use Rattle.std.proofs.lemmas.Bool.{and_cases, and_from, and_parts, both_ways, cases_Bool, cases_eq, cond_both, cond-false, cond-true, false≢true, lt-leb, or_cases}
+use Rattle.std.proofs.Common.{◌≡◌, ℕ, zero, suc, ◌+◌, ◌<◌, Bool, true, false, cond, ◌&&◌, ◌||◌, leb, List, [], get_or, Some, None, Ok, Err, Option, Result, unwrap_or, sym, refl, ap, ◌∙◌, subst, ⊎_elim, arith}
+use Rattle.std.proofs.lemmas.Bool.{and_cases, and_from, and_parts, both_ways, cases_eq, cond_both, cond-false, cond-true, false≢true, lt-leb, or_cases}
 use Rattle.stock.specs.Access.{writing_access}
 use Rattle.stock.specs.Arithmetic.{computed}
 use Rattle.stock.specs.Kind.{kind_of}
@@ -15,7 +15,7 @@ use Rattle.policy.specs.declared.orec.OwnershipRecord.{OwnershipRecord}
 use Rattle.rules.specs.declared.descriptor.Seen.{Seen}
 use Rattle.rules.specs.declared.descriptor.Status.TheVariants.{Aborted, Active}
 use Rattle.rules.specs.Accessing.{answered, performed, seen}
-use Rattle.rules.specs.Changes.{aborted_by, begun_by, ended_by, kept_by, read_by, written_by}
+use Rattle.rules.specs.Changes.{begun_by, ended_by, kept_by, read_by, written_by}
 use Rattle.rules.specs.Parts.{exclusive, kept, newly_begun, shared}
 use Rattle.rules.specs.Contention.{acquired, takes, waits_for}
 use Rattle.rules.specs.Machine.{Machine, copied, drafted, on}
@@ -28,7 +28,7 @@ use Rattle.rules.specs.Release.{lowered, released}
 use Rattle.rules.specs.Request.{Request, access, begin, caller, cancel, commit, hardware, write_back}
 use Rattle.rules.specs.State.{Descriptor, State, idle, owns_to_write, with_reads, with_status, with_written_back}
 use Rattle.rules.specs.Tables.{lowest}
-use Rattle.rules.specs.Tests.{is_aborted, is_active, is_committed, is_idle, is_read, is_write}
+use Rattle.rules.specs.Tests.{is_aborted, is_active, is_committed, is_read, is_write}
 use Rattle.rules.proofs.Basics.{never, put_at, put_other, put_put, put_same, some_none}
 use Rattle.rules.proofs.Bounds.{Steady}
 use Rattle.rules.proofs.Leader.{beats, begun}

@@ -1,5 +1,5 @@
 -- An access that no check declines is answered rightly, on the orec that it has or that it takes first.
-use Rattle.std.proofs.Common.{◌≡◌, ℕ, ◌<◌, true, false, cond, not, eqb, ◌⊎◌, [], ◌∷◌, ◌++◌, length, is_some, Some, None, Ok, Err, Result, unwrap_or, sym, refl, ap, ◌∙◌, subst, inl, inr, ⊎_elim}
+use Rattle.std.proofs.Common.{◌≡◌, ℕ, ◌<◌, true, false, cond, ◌⊎◌, [], ◌∷◌, ◌++◌, length, is_some, Some, None, Ok, Err, Result, unwrap_or, sym, refl, ap, ◌∙◌, subst, inl, inr, ⊎_elim}
 use Rattle.meaning.specs.Meaning.{answer}
 use Rattle.meaning.specs.Store.{Store, put}
 use Rattle.policy.specs.declared.orec.Mode.TheVariants.{Write}
@@ -18,18 +18,17 @@ use Rattle.rules.specs.Replay.{Replays, effect, stored}
 use Rattle.rules.specs.Request.{Request, access}
 use Rattle.rules.specs.Sound.{gone}
 use Rattle.rules.specs.State.{Descriptor, owns_to_write, with_reads}
-use Rattle.rules.specs.Tests.{is_committed, is_write}
+use Rattle.rules.specs.Tests.{is_write}
 use Rattle.rules.specs.WriteSet.{has}
-use Rattle.rules.specs.declared.descriptor.Status.{Status}
-use Rattle.rules.specs.declared.descriptor.Status.TheVariants.{Active, Committed}
-use Rattle.std.proofs.lemmas.Bool.{cond-false, cond_both, cond-true, false≢true, not-false, not-true, or_left, or_right}
+use Rattle.rules.specs.declared.descriptor.Status.TheVariants.{Active}
+use Rattle.std.proofs.lemmas.Bool.{cond-false, cond_both, false≢true, or_left, or_right}
 use Rattle.stock.specs.Access.{writing_access}
 use Rattle.stock.specs.Arithmetic.{computed}
 use Rattle.stock.specs.Kind.{kind_of}
 use Rattle.stock.specs.declared.access.Access.{Access}
 use Rattle.stock.specs.declared.fault.StockFault.{StockFault}
 use Rattle.rules.proofs.Acts.{good_draft, good_note, sure_draft, sure_note}
-use Rattle.rules.proofs.Basics.{never, put_at, put_same}
+use Rattle.rules.proofs.Basics.{never, put_same}
 use Rattle.rules.proofs.Holds.{Holds}
 use Rattle.rules.proofs.Moves.{good_take_read, good_take_write, sure_take_read, sure_take_write}
 use Rattle.rules.proofs.Release.{owned_from}

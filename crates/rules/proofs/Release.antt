@@ -13,7 +13,7 @@ use Rattle.rules.specs.Tables.{tally}
 use Rattle.rules.specs.Tests.{is_active, is_idle, is_read, is_write}
 use Rattle.rules.specs.WriteSet.{has}
 use Rattle.rules.specs.declared.descriptor.Seen.{Seen}
-use Rattle.rules.specs.declared.descriptor.Status.TheVariants.{Active, Committed, Idle}
+use Rattle.rules.specs.declared.descriptor.Status.TheVariants.{Active, Idle}
 use Rattle.std.proofs.lemmas.Bool.{and_from, and_parts, both_ways, cases_Bool, cases_lt, cond_both, cond-false, cond-true, eq-eqb, eqb-true, false≢true, leb-false, leb-true, lt-leb, true≢false}
 use Rattle.rules.proofs.Basics.{never, put_at, put_other, put_same}
 use Rattle.rules.proofs.Inv.{Inv, Shape, Wrote, older, tally_same}

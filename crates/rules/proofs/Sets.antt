@@ -1,5 +1,5 @@
 -- Read sets, and counts of threads.
-use Rattle.std.proofs.Common.{◌≡◌, ℕ, zero, suc, ◌<◌, ◌≤◌, Bool, true, false, not, is_some, Some, None, Option, sym, refl, ap, ◌∙◌, subst, ⊎_elim, arith}
+use Rattle.std.proofs.Common.{◌≡◌, ℕ, zero, suc, ◌<◌, ◌≤◌, Bool, true, false, is_some, Some, None, Option, sym, refl, ap, ◌∙◌, subst, ⊎_elim, arith}
 use Rattle.meaning.specs.Store.{put}
 use Rattle.meaning.specs.Undo.{one}
 use Rattle.policy.specs.declared.orec.OwnershipRecord.{OwnershipRecord}

@@ -3,7 +3,7 @@
 --   Standing   an active caller whose snapshots are all valid
 --   Admitted   an access that has passed every check up to the room in its sets
 use Rattle.std.proofs.Common.{◌≡◌, ℕ, ◌+◌, ◌-◌, ◌<◌, ◌≤◌, Bool, true, false, cond, not, ◌&&◌, ◌||◌, eqb, ltb, leb, List, [], ◌∷◌, length, get_or, is_some, Some, None, Ok, Err, Result, sym, refl, ap, ◌∙◌, subst, ⊎_elim, arith}
-use Rattle.std.proofs.lemmas.Bool.{and_cases, and_parts, both_ways, cases_Bool, cond_both, cond-true, eqb-false, eqb-true, false≢true, leb-false, ltb-false, not-false, not-true, or_parts, true≢false}
+use Rattle.std.proofs.lemmas.Bool.{and_cases, and_parts, both_ways, cases_Bool, cond_both, cond-true, eqb-false, eqb-true, leb-false, ltb-false, not-false, not-true, or_parts}
 use Rattle.stock.specs.declared.access.Access.{Access}
 use Rattle.stock.specs.declared.fault.AccessFault.{AccessFault}
 use Rattle.stock.specs.declared.fault.StockFault.{StockFault}
@@ -12,25 +12,24 @@ use Rattle.stock.specs.Kind.{kind_of}
 use Rattle.decline.specs.declared.Decline.{Decline}
 use Rattle.decline.specs.declared.Decline.TheVariants as decline
 use Rattle.decline.specs.Decline.{number_of}
-use Rattle.meaning.specs.Check.{and_then, bad_count, check_access, checked, wrong_access_count}
+use Rattle.meaning.specs.Check.{and_then, bad_count, checked, wrong_access_count}
 use Rattle.meaning.specs.Meaning.{Meaning, after, answer, by_result, from, meaning, noted}
 use Rattle.meaning.specs.Perform.{as_decline, concluded}
 use Rattle.meaning.specs.Store.{Store}
 use Rattle.policy.specs.declared.orec.Mode.TheVariants.{Write}
 use Rattle.policy.specs.declared.orec.OwnershipRecord.{OwnershipRecord}
 use Rattle.hardware.specs.Path.{shapes}
-use Rattle.rules.specs.declared.descriptor.Status.{Status}
-use Rattle.rules.specs.declared.descriptor.Status.TheVariants.{Aborted, Active, Committed, Idle}
-use Rattle.rules.specs.Accessing.{accessing, attempting, performed, proceeding}
+use Rattle.rules.specs.declared.descriptor.Status.TheVariants.{Active, Committed, Idle}
+use Rattle.rules.specs.Accessing.{attempting, performed, proceeding}
 use Rattle.rules.specs.Changes.{aborted_by, begun_by, ended_by, kept_by}
 use Rattle.rules.specs.Contention.{acquired, cleared, full, takes, waits_for}
-use Rattle.rules.specs.Hardware.{ending, fitted, gated, launched, outcome_of, running, unless}
+use Rattle.rules.specs.Hardware.{ending, fitted, gated, launched, outcome_of, unless}
 use Rattle.rules.specs.Machine.{Machine, copied, on, with_words}
 use Rattle.rules.specs.Next.{lifted, next}
 use Rattle.rules.specs.Outcome.{Outcome, begun, cancelled, committed, declined, fault_in, ran, wrote_back}
 use Rattle.rules.specs.Policy.{Policy, Rules}
 use Rattle.rules.specs.ReadSet.{valid}
-use Rattle.rules.specs.Request.{Request, access, begin, cancel, commit, hardware, write_back}
+use Rattle.rules.specs.Request.{access, begin, cancel, commit, hardware, write_back}
 use Rattle.rules.specs.Sound.{gone}
 use Rattle.rules.specs.State.{Descriptor, State, owns_to_write, under_way}
 use Rattle.rules.specs.Tests.{is_aborted, is_active, is_committed, is_idle, is_write}

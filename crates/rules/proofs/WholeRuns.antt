@@ -5,15 +5,14 @@ use Rattle.rules.specs.declared.descriptor.Status.TheVariants.{Active}
 use Rattle.rules.specs.Course.{Course, Moment, course, start, turn}
 use Rattle.rules.specs.EveryRun.{EveryRun}
 use Rattle.rules.specs.Lawful.{Lawful}
-use Rattle.rules.specs.Machine.{Machine, new}
+use Rattle.rules.specs.Machine.{new}
 use Rattle.rules.specs.Next.{next}
 use Rattle.rules.specs.Orderly.{GivesWayAt, Orderly}
-use Rattle.rules.specs.Ownership.{read_bit, reading, write_bit, writing}
+use Rattle.rules.specs.Ownership.{reading, writing}
 use Rattle.rules.specs.Policy.{Laws, Policy}
 use Rattle.rules.specs.Reached.{Reached}
 use Rattle.rules.specs.Request.{Request, access, caller, commit, hardware}
 use Rattle.rules.specs.Serial.{Consistent, RunsConsistent, RunsSerial, Serial, after, before, outcome}
-use Rattle.rules.specs.State.{State}
 use Rattle.rules.specs.Tests.{is_active, is_committed}
 use Rattle.rules.proofs.Bounds.{Steady, state_new}
 use Rattle.rules.proofs.Calls.{post_next}

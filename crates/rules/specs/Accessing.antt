@@ -13,7 +13,6 @@ use Rattle.stock.specs.Access.{writing_access}
 use Rattle.stock.specs.Arithmetic.{computed}
 use Rattle.stock.specs.Fault.{alone}
 use Rattle.stock.specs.Kind.{kind_of}
-use Rattle.decline.specs.declared.Decline.{Decline}
 use Rattle.decline.specs.declared.Decline.TheVariants.{Aborted, SetFull, SnapshotInvalid, Stock, UnknownKind, UnknownThread, UnknownWord, Wait, WrongLength, WrongStatus}
 use Rattle.meaning.specs.Check.{bad_count}
 use Rattle.meaning.specs.Store.{Store}

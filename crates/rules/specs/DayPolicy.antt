@@ -1,5 +1,5 @@
 -- The policy of the day program: Counts, remainder, by start, by record, and the redo log.
-use Rattle.std.specs.Prelude.{Bool, length, nat_le}
+use Rattle.std.specs.Prelude.{length, nat_le}
 use Rattle.stock.specs.declared.count.Count.{Count}
 use Rattle.stock.specs.Arithmetic.{arithmetic_of}
 use Rattle.stock.specs.Count.{count_draws, count_stows}

@@ -4,7 +4,7 @@
 --   launched   the gate, and then the path
 --   fitted     kinds and words, then whether it fits
 --   running    the whole call
-use Rattle.std.specs.Prelude.{ℕ, ◌+◌, Bool, cond, not, ◌||◌, List, [], ◌∷◌, length, Ok, Err, Result, ◌==◌, nat_lt}
+use Rattle.std.specs.Prelude.{ℕ, ◌+◌, cond, not, ◌||◌, List, [], ◌∷◌, length, Ok, Err, Result, ◌==◌, nat_lt}
 use Rattle.stock.specs.declared.access.Access.{Access}
 use Rattle.stock.specs.Access.{writing_access}
 use Rattle.decline.specs.declared.Decline.{Decline}

@@ -2,7 +2,7 @@
 --   Loses     one of the two ownership numbers of s, told by its bits, has a bit set before and not after
 --   Orderly   the law
 use Rattle.std.specs.Prelude.{◌≡◌, ℕ, Bool, true, false, List, ◌≢◌}
-use Rattle.rules.specs.Course.{Course, Moment}
+use Rattle.rules.specs.Course.{Moment}
 use Rattle.rules.specs.Outcome.{returned}
 use Rattle.rules.specs.Outside.{ByPreceding, Foremost, IsAborted, IsActive}
 use Rattle.rules.specs.Ownership.{read_bit, write_bit}

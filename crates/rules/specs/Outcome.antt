@@ -6,7 +6,7 @@
 --   answer_in    the answer to an access: its value, or with 15 its stock fault; other outcomes have none
 --   in_codes     the outcome with each value told by a number
 --   left_in      how many words a granted commit or write-back leaves to be written back
-use Rattle.std.specs.Prelude.{ℕ, Bool, true, false, List, [], map, Some, None, Ok, Err, Option, Result}
+use Rattle.std.specs.Prelude.{ℕ, Bool, true, false, List, map, Some, None, Ok, Err, Option, Result}
 use Rattle.stock.specs.declared.fault.StockFault.{StockFault}
 use Rattle.decline.specs.declared.Decline.{Decline}
 use Rattle.decline.specs.declared.Decline.TheVariants as decline

@@ -1,4 +1,4 @@
-use Rattle.std.proofs.Common.{◌≡◌, ◌-◌, unwrap_or, sym, ◌∙◌, arith}
+use Rattle.std.proofs.Common.{◌-◌, ◌∙◌, arith}
 use Rattle.meaning.proofs.Stores.{nth_read}
 use Rattle.hardware.proofs.Laying.{laid_less}
 use Rattle.hardware.proofs.overlay.copy_out.Goals as goal

@@ -1,9 +1,8 @@
-use Rattle.std.proofs.Common.{◌≡◌, Bool, cond, List, length, take, set, Result, sym, refl, ap, ◌∙◌, arith, rules}
+use Rattle.std.proofs.Common.{◌≡◌, Bool, cond, length, take, set, Result, sym, ap, ◌∙◌, rules}
 use Rattle.std.proofs.lemmas.List.{length-take-le}
 use Rattle.stock.specs.declared.fault.StockFault.{StockFault}
 use Rattle.stock.specs.Arithmetic.{arithmetic_of}
 use Rattle.meaning.specs.Step.{ended, words_after, answers_after}
-use Rattle.meaning.specs.Store.{nth}
 use Rattle.hardware.specs.Overlay.{laid}
 use Rattle.hardware.proofs.Laying.{one_more_aside}
 use Rattle.hardware.proofs.Asides.{found, listed_with, listed_not}

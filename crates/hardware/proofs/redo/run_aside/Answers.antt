@@ -1,7 +1,7 @@
-use Rattle.std.proofs.Common.{◌≡◌, ℕ, ◌+◌, ◌<◌, ◌≤◌, List, length, take, sym, refl, ap, ◌∙◌, subst, arith, rules}
+use Rattle.std.proofs.Common.{ℕ, ◌+◌, ◌≤◌, List, length, take, sym, ap, ◌∙◌, subst, arith, rules}
 use Rattle.std.proofs.lemmas.List.{take_all, length-take-le}
 use Rattle.stock.specs.Arithmetic.{arithmetic_of}
-use Rattle.meaning.specs.Meaning.{Meaning, meaning, answer}
+use Rattle.meaning.specs.Meaning.{Meaning}
 use Rattle.meaning.specs.Store.{nth}
 use Rattle.meaning.proofs.Course.{goes_on, ends_here, all_done}
 use Rattle.meaning.proofs.Passed.{ready_inside, ready_places, ready_word}
