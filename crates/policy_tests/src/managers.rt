@@ -2,7 +2,6 @@
 use policy::contention::{ByClass, ByStart, ByThread, ContentionManager, Reversed};
 use policy::priority::Priority;
 use std::process::Abort;
-use std::test::Fail;
 
 const EARLY: Priority = Priority {
     class: 2,
@@ -29,47 +28,71 @@ fn first<C: ContentionManager>(
     manager: &C,
     one: Priority,
     other: Priority,
-) -> Result<(), Fail> {
-    assert!(rt; manager.precedes(one, other));
-    assert!(rt; !manager.precedes(other, one));
+    why: &str,
+) {
+    assert!(rt; manager.precedes(one, other), "{why}");
+    assert!(rt; !manager.precedes(other, one), "{why}");
     assert!(rt; !manager.precedes(one, one), "nothing precedes itself");
-    Ok(())
 }
 
 #[test]
-fn by_start(rt: HostRuntime) -> Result<(), Fail> {
-    first(&rt, &ByStart, EARLY, LATE)?;
-    first(&rt, &ByStart, EARLY, URGENT).note("one start, so the lower thread")
+fn by_start(rt: HostRuntime) {
+    first(&rt, &ByStart, EARLY, LATE, "the earlier start");
+    first(
+        &rt,
+        &ByStart,
+        EARLY,
+        URGENT,
+        "one start, so the lower thread",
+    );
 }
 
 #[test]
-fn by_thread(rt: HostRuntime) -> Result<(), Fail> {
-    first(&rt, &ByThread, LATE, EARLY)?;
-    first(&rt, &ByThread, EARLY, URGENT)
+fn by_thread(rt: HostRuntime) {
+    first(&rt, &ByThread, LATE, EARLY, "the lower thread");
+    first(&rt, &ByThread, EARLY, URGENT, "the lower thread");
 }
 
 #[test]
-fn by_class(rt: HostRuntime) -> Result<(), Fail> {
-    first(&rt, &ByClass(ByStart), URGENT, EARLY)?;
-    first(&rt, &ByClass(ByStart), EARLY, LATE).note("one class, so the lower start")
+fn by_class(rt: HostRuntime) {
+    first(&rt, &ByClass(ByStart), URGENT, EARLY, "the lower class");
+    first(
+        &rt,
+        &ByClass(ByStart),
+        EARLY,
+        LATE,
+        "one class, so the lower start",
+    );
 }
 
 #[test]
-fn reversed(rt: HostRuntime) -> Result<(), Fail> {
-    first(&rt, &Reversed(ByThread), EARLY, LATE)?;
-    first(&rt, &Reversed(Reversed(ByThread)), LATE, EARLY)
+fn reversed(rt: HostRuntime) {
+    first(&rt, &Reversed(ByThread), EARLY, LATE, "the higher thread");
+    first(
+        &rt,
+        &Reversed(Reversed(ByThread)),
+        LATE,
+        EARLY,
+        "twice reversed, so the lower thread",
+    );
 }
 
 #[test]
-fn class_over_reversed(rt: HostRuntime) -> Result<(), Fail> {
+fn class_over_reversed(rt: HostRuntime) {
     let manager = ByClass(Reversed(ByThread));
-    first(&rt, &manager, URGENT, EARLY)?;
-    first(&rt, &manager, EARLY, LATE).note("one class, so the higher thread")
+    first(&rt, &manager, URGENT, EARLY, "the lower class");
+    first(
+        &rt,
+        &manager,
+        EARLY,
+        LATE,
+        "one class, so the higher thread",
+    );
 }
 
 #[test]
-fn reversed_class(rt: HostRuntime) -> Result<(), Fail> {
+fn reversed_class(rt: HostRuntime) {
     let manager = Reversed(ByClass(ByStart));
-    first(&rt, &manager, EARLY, URGENT)?;
-    first(&rt, &manager, LATE, EARLY).note("one class, so the later start")
+    first(&rt, &manager, EARLY, URGENT, "the higher class");
+    first(&rt, &manager, LATE, EARLY, "one class, so the later start");
 }
