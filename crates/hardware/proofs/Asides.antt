@@ -1,6 +1,6 @@
 -- One access on words as they would be: what it answers, and how many words are then set aside.
 use Rattle.std.proofs.Common.{◌≡◌, ℕ, ◌<◌, ◌≤◌, Bool, true, false, cond, not, ◌&&◌, List, [], ◌∷◌, ◌++◌, length, get_or, take, is_some, Some, None, Option, Result, unwrap_or, sym, refl, ap, ◌∙◌, subst, arith}
-use Rattle.std.specs.List.{AllByRecursion as All}
+use Rattle.std.specs.List.{AllByRecursion}
 use Rattle.std.proofs.ByRecursion.{All-get_or}
 use Rattle.std.proofs.lemmas.List.{length_push, length-take-le, get_or-take}
 use Rattle.stock.specs.declared.access.Access.{Access}
@@ -54,5 +54,5 @@ module _ {V : Type 0} where
 
   pub places_inside : (k : ℕ) (xs : List (Access V)) (bs : List ℕ) (n : ℕ) → Inside k xs → take n bs ≡ aside xs → n ≤ length bs → (j : ℕ) → j < n → get_or bs j 0 < k
   places_inside k xs bs n i e l j h =
-      let p = All-get_or (λ b. b < k) (take n bs) j 0 (omega (arith, length-take-le n bs l)) (subst (All (λ b. b < k)) (sym e) (all_inside k [] xs tt i)) in
+      let p = All-get_or (λ b. b < k) (take n bs) j 0 (omega (arith, length-take-le n bs l)) (subst (AllByRecursion (λ b. b < k)) (sym e) (all_inside k [] xs tt i)) in
       subst (λ (x : ℕ). x < k) (get_or-take n bs j 0 h) p

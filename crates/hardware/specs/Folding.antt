@@ -1,7 +1,7 @@
 -- What the limits count over shapes is what the runs count over accesses, step by step.
 use Rattle.std.specs.Prelude.{◌≡◌, ℕ, zero, suc, ◌+◌, ◌<◌, ◌≤◌, Bool, true, false, not, ◌&&◌, List, [], ◌∷◌, ◌++◌, map, length, take, is_some, fold, slice_index_or, nat_le, refl}
 use Rattle.std.proofs.Common.{sym, ap, ◌∙◌, arith}
-use Rattle.std.specs.List.{AllByRecursion as All}
+use Rattle.std.specs.List.{AllByRecursion}
 use Rattle.std.proofs.ByRecursion.{All-push}
 use Rattle.std.proofs.lemmas.List.{length_push}
 use Rattle.std.proofs.lemmas.List.Sums.{fold_more}
@@ -50,17 +50,17 @@ module _ {V : Type 0} where
   pub aside_le : (xs : List (Access V)) (i : ℕ) → length (aside (take i xs)) ≤ length (aside xs)
   aside_le xs i = part_le [] xs i
 
-  one_inside : (k : ℕ) (bs : List ℕ) (a : Access V) → All (λ b. b < k) bs → a.word < k → All (λ b. b < k) (with_word bs a)
+  one_inside : (k : ℕ) (bs : List ℕ) (a : Access V) → AllByRecursion (λ b. b < k) bs → a.word < k → AllByRecursion (λ b. b < k) (with_word bs a)
   one_inside k bs a h l =
-      cond_both (writing_access a && not (is_some (place_from a.word 0 bs))) (bs ++ a.word ∷ []) bs (λ (x : List ℕ). All (λ b. b < k) x)
+      cond_both (writing_access a && not (is_some (place_from a.word 0 bs))) (bs ++ a.word ∷ []) bs (λ (x : List ℕ). AllByRecursion (λ b. b < k) x)
       (λ _. All-push (λ b. b < k) bs a.word h l) (λ _. h)
 
-  pub all_inside : (k : ℕ) (bs : List ℕ) (xs : List (Access V)) → All (λ b. b < k) bs → Inside k xs → All (λ b. b < k) (fold with_word bs xs)
+  pub all_inside : (k : ℕ) (bs : List ℕ) (xs : List (Access V)) → AllByRecursion (λ b. b < k) bs → Inside k xs → AllByRecursion (λ b. b < k) (fold with_word bs xs)
   all_inside k bs [] h i = h
   all_inside k bs (x ∷ xs) h i = all_inside k (with_word bs x) xs (one_inside k bs x h (i 0 x (omega arith))) (λ j d l. i (suc j) d (omega arith))
 
 -- one access fits every limit
-count_short : (s : List (ℕ × ℕ)) → length s ≤ 1 → write_count s ≤ 1
+pub count_short : (s : List (ℕ × ℕ)) → length s ≤ 1 → write_count s ≤ 1
 count_short [] h = omega arith
 count_short (x ∷ []) h = at_most (writing_shape x)
   where
@@ -69,7 +69,7 @@ count_short (x ∷ []) h = at_most (writing_shape x)
     at_most false = omega arith
 count_short (x ∷ (y ∷ s)) h = absurd (omega arith)
 
-words_short : (s : List (ℕ × ℕ)) → length s ≤ 1 → length (written_words s) ≤ 1
+pub words_short : (s : List (ℕ × ℕ)) → length s ≤ 1 → length (written_words s) ≤ 1
 words_short [] h = omega arith
 words_short (x ∷ []) h =
     cond_both (writing_shape x && not (is_some (place_from x.1 0 []))) (x.1 ∷ []) [] (λ (l : List ℕ). length l ≤ 1) (λ _. omega arith) (λ _. omega arith)

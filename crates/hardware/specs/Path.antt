@@ -3,7 +3,7 @@
 --   Known    kinds and words that have been checked
 --   ran      gives up on what does not fit, with all as before; otherwise the meaning
 use Rattle.std.specs.Prelude.{ℕ, ◌<◌, Bool, true, false, List, map, Err}
-use Rattle.std.specs.List.{AllByRecursion as All}
+use Rattle.std.specs.List.{AllByRecursion}
 use Rattle.stock.specs.declared.access.Access.{Access}
 use Rattle.decline.specs.declared.Decline.TheVariants.{Unfit}
 use Rattle.stock.specs.Arithmetic.{Arithmetic}
@@ -12,7 +12,7 @@ use Rattle.meaning.specs.Perform.{Performed, concluded}
 use Rattle.meaning.specs.Store.{Store}
 
 abbrev pub Known : List (ℕ × ℕ) → Type 0
-Known s = All (λ x. (x.0 < 4) × (x.1 < 4096)) s
+Known s = AllByRecursion (λ x. (x.0 < 4) × (x.1 < 4096)) s
 
 module _ {V : Type 0} where
   abbrev pub shapes : List (Access V) → List (ℕ × ℕ)

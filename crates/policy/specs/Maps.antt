@@ -1,7 +1,7 @@
 -- The maps from a word's number to the number of its ownership record.
---     by-remainder    neighbouring words have different records
---     by-quotient     each run of 64 words shares one record
---     by-scatter      the top six bits of a 32-bit product: near words land far apart
+--     by_remainder    neighbouring words have different records
+--     by_quotient     each run of 64 words shares one record
+--     by_scatter      the top six bits of a 32-bit product: near words land far apart
 use Rattle.std.specs.Prelude.{ℕ, ◌*◌, ◌/◌, ◌%◌, ◌^◌}
 
 abbrev pub by_remainder : ℕ → ℕ

@@ -1,8 +1,8 @@
 -- Ownership records: the number of each mode, the record that a new memory starts from, and which records are well formed.
---     mode-number    free 0, read 1, write 2
---     new-record     free, with no readers, of thread 0 and version 0
---     readers-fit    none when free or in write mode, 1 to 16 in read mode
---     well-formed    the readers fit the mode, the thread is at most 15 and the version at most 1,000,000
+--     mode_number    free 0, read 1, write 2
+--     new_record     free, with no readers, of thread 0 and version 0
+--     readers_fit    none when free or in write mode, 1 to 16 in read mode
+--     well_formed    the readers fit the mode, the thread is at most 15 and the version at most 1,000,000
 use Rattle.std.specs.Prelude.{ℕ, Bool, ◌&&◌, ◌==◌, nat_le}
 use Rattle.policy.specs.declared.orec.Mode.{Mode}
 use Rattle.policy.specs.declared.orec.Mode.TheVariants.{Free, Read, Write}

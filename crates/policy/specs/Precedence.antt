@@ -1,7 +1,7 @@
 -- Which of two priorities precedes the other.
---     by-start    the lower start; at one start, the lower thread
---     by-thread   the lower thread
---     by-class    the lower class; within a class, as another rule says
+--     by_start    the lower start; at one start, the lower thread
+--     by_thread   the lower thread
+--     by_class    the lower class; within a class, as another rule says
 --     reversed    another rule, turned round
 use Rattle.std.specs.Prelude.{Bool, cond, ◌&&◌, ◌||◌, ◌==◌, nat_lt}
 use Rattle.policy.specs.declared.priority.Priority.{Priority}

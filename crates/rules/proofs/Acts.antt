@@ -16,7 +16,7 @@ use Rattle.rules.specs.WriteSet.{has, place, with}
 use Rattle.rules.specs.declared.descriptor.Status.TheVariants.{Active}
 use Rattle.std.proofs.ByRecursion.{All-push, All-weaker}
 use Rattle.std.proofs.lemmas.Bool.{cases_Bool, cases_eq, cond-false, cond-true}
-use Rattle.std.specs.List.{AllByRecursion as All}
+use Rattle.std.specs.List.{AllByRecursion}
 use Rattle.stock.specs.Access.{writing_access}
 use Rattle.stock.specs.Arithmetic.{computed}
 use Rattle.stock.specs.Kind.{kind_of}
@@ -138,7 +138,7 @@ module _ {V : Type 0} (P : Policy V) (m : Machine V) (l : Ledger V) (good : Good
           (cases_eq q o.word))
           good.wrote
 
-      all_true : All (λ (x : Answered V). ◌≡◌ {A = Bool} true true) es
+      all_true : AllByRecursion (λ (x : Answered V). ◌≡◌ {A = Bool} true true) es
       all_true =
           All-weaker (λ x. touched t (g t) (P.rules.orec_of x.asked.word) (f (P.rules.orec_of x.asked.word)) ≡ true) (λ x. true ≡ true)
           (λ _ _. refl) es sure.touches
@@ -184,7 +184,7 @@ module _ {V : Type 0} (P : Policy V) (m : Machine V) (l : Ledger V) (good : Good
       sure_draft =
           record {
             touches =
-                subst (λ d. All (λ x. touched t d (P.rules.orec_of x.asked.word) (f (P.rules.orec_of x.asked.word)) ≡ true) (es ++ e₂ ∷ [])) (sym (put_same g t d₂))
+                subst (λ d. AllByRecursion (λ x. touched t d (P.rules.orec_of x.asked.word) (f (P.rules.orec_of x.asked.word)) ≡ true) (es ++ e₂ ∷ [])) (sym (put_same g t d₂))
                 (All-push (λ x. touched t (g t) (P.rules.orec_of x.asked.word) (f (P.rules.orec_of x.asked.word)) ≡ true) es e₂ sure.touches touch);
             replays =
                 λ _. replays_push P.arithmetic (logical m₂) es e₂

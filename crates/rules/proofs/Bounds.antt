@@ -1,6 +1,6 @@
 -- What a sound state is made of, and that a new state has it and each elementary change keeps it, from the core of Inv, Take and Release.
 use Rattle.std.proofs.Common.{◌≡◌, ℕ, zero, suc, ◌+◌, ◌<◌, ◌≤◌, Bool, true, false, [], ◌∷◌, ◌++◌, length, is_some, Some, None, Option, sym, refl, ap, ◌∙◌, subst, ⊎_elim, arith}
-use Rattle.std.specs.List.{AllByRecursion as All}
+use Rattle.std.specs.List.{AllByRecursion}
 use Rattle.std.proofs.ByRecursion.{All-push}
 use Rattle.std.proofs.lemmas.Bool.{cases_eq, cond_both, false≢true}
 use Rattle.meaning.specs.Store.{put}
@@ -41,7 +41,7 @@ Begun begins t d = (d.status ≡ Idle → ⊥) → SoundPriority t begins d.prio
 pub record Bounds (c : State) : Type 0 where
   pub versions : (t : ℕ) → (c.descriptors t).version ≤ 1000000
   pub sizes : (t : ℕ) → size (c.descriptors t).reads ≤ 32
-  pub words : (t : ℕ) → All (λ b. b < 4096) (c.descriptors t).writes
+  pub words : (t : ℕ) → AllByRecursion (λ b. b < 4096) (c.descriptors t).writes
   pub begun : (t : ℕ) → Begun c.begins t (c.descriptors t)
   pub sum : c.begins ≡ total (λ t. (c.descriptors t).version) 16
 
@@ -87,13 +87,13 @@ size_none es e = let i = tally_none (λ r. is_some (es r)) 64 (λ r _. ap is_som
 -- one descriptor changes, and keeps its version
 bounds_put :
     (c : State) (f : ℕ → OwnershipRecord) (t : ℕ) (d : Descriptor) → d.version ≡ (c.descriptors t).version → size d.reads ≤ 32 →
-    All (λ b. b < 4096) d.writes → Begun c.begins t d → Bounds c → Bounds (record { orecs = f; descriptors = put c.descriptors t d; begins = c.begins })
+    AllByRecursion (λ b. b < 4096) d.writes → Begun c.begins t d → Bounds c → Bounds (record { orecs = f; descriptors = put c.descriptors t d; begins = c.begins })
 bounds_put c f t d v n ws p b =
     let g = c.descriptors in
     record {
       versions = λ s. put_at g t s d (λ x. x.version ≤ 1000000) (λ _. omega (arith, v, b.versions t)) (λ _. b.versions s);
       sizes = λ s. put_at g t s d (λ x. size x.reads ≤ 32) (λ _. n) (λ _. b.sizes s);
-      words = λ s. put_at g t s d (λ x. All (λ b. b < 4096) x.writes) (λ _. ws) (λ _. b.words s);
+      words = λ s. put_at g t s d (λ x. AllByRecursion (λ b. b < 4096) x.writes) (λ _. ws) (λ _. b.words s);
       begun = λ s. put_at g t s d (Begun c.begins s) (λ e. subst (λ z. Begun c.begins z d) (sym e) p) (λ _. b.begun s);
       sum =
           b.sum
@@ -131,7 +131,7 @@ module _ (c : State) (t : ℕ) (below : t < 16) where
             record {
               versions = λ q. put_at g t q d (λ x. x.version ≤ 1000000) (λ _. omega (arith, s.bounds.versions t, v)) (λ _. s.bounds.versions q);
               sizes = λ q. put_at g t q d (λ x. size x.reads ≤ 32) (λ _. size_none (λ r. None) (λ _. refl)) (λ _. s.bounds.sizes q);
-              words = λ q. put_at g t q d (λ x. All (λ b. b < 4096) x.writes) (λ _. tt) (λ _. s.bounds.words q);
+              words = λ q. put_at g t q d (λ x. AllByRecursion (λ b. b < 4096) x.writes) (λ _. tt) (λ _. s.bounds.words q);
               begun =
                   λ q. put_at g t q d (Begun (c.begins + 1) q)
                   (λ e _. record { possible = record { class = few; start = omega arith; thread = omega (arith, below) }; counted = omega arith; own_thread = sym e })
@@ -171,7 +171,7 @@ module _ (c : State) (t : ℕ) (below : t < 16) where
           left = left_put g t d s.left (still d refl);
           bounds =
               bounds_put c f t d refl (s.bounds.sizes t)
-              (cond_both (has b ws) ws (ws ++ b ∷ []) (All (λ b. b < 4096)) (λ _. s.bounds.words t)
+              (cond_both (has b ws) ws (ws ++ b ∷ []) (AllByRecursion (λ b. b < 4096)) (λ _. s.bounds.words t)
               (λ _. All-push (λ b. b < 4096) ws b (s.bounds.words t) l))
               (λ _. since) s.bounds;
         }

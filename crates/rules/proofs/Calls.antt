@@ -1,6 +1,6 @@
 -- Every request keeps a memory good and is answered rightly, by the ways that a call can end.
 use Rattle.std.proofs.Common.{◌≡◌, ℕ, ◌+◌, ◌*◌, ◌<◌, Bool, true, false, cond, not, ◌&&◌, ◌||◌, List, [], length, get_or, is_some, Some, None, Result, sym, refl, ap, ◌∙◌, subst, ⊎_elim}
-use Rattle.std.specs.List.{AllByRecursion as All}
+use Rattle.std.specs.List.{AllByRecursion}
 use Rattle.std.proofs.ByRecursion.{All-weaker}
 use Rattle.std.proofs.lemmas.List.{nil_from_length}
 use Rattle.std.proofs.lemmas.Bool.{and_parts, cond-false, false≢true, not-false, or_cases, or_left, or_right}
@@ -119,7 +119,7 @@ module _ {V : Type 0} (P : Policy V) (laws : Laws P.rules) (m : Machine V) (l : 
     abbrev l₁ : Ledger V
     l₁ = record { figures = replayed P.arithmetic l.figures es; accesses = l.accesses }
 
-    all_true : All (λ (x : Answered V). ◌≡◌ {A = Bool} true true) es
+    all_true : AllByRecursion (λ (x : Answered V). ◌≡◌ {A = Bool} true true) es
     all_true =
         All-weaker (λ x. touched t (g t) (P.rules.orec_of x.asked.word) (f (P.rules.orec_of x.asked.word)) ≡ true) (λ x. true ≡ true)
         (λ _ _. refl) es (surely t s).touches

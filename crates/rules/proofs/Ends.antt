@@ -18,7 +18,7 @@ use Rattle.rules.specs.WriteSet.{has, place}
 use Rattle.rules.specs.declared.descriptor.Status.TheVariants.{Active}
 use Rattle.std.proofs.ByRecursion.{All-weaker}
 use Rattle.std.proofs.lemmas.Bool.{and_from, and_parts, and_right, cases_Bool, cond-false, cond-true, false≢true, le-leb, or_cases}
-use Rattle.std.specs.List.{AllByRecursion as All}
+use Rattle.std.specs.List.{AllByRecursion}
 use Rattle.rules.proofs.Basics.{put_other, put_same}
 use Rattle.rules.proofs.Frame.{replayed_frame}
 use Rattle.rules.proofs.Inv.{Inv, Wrote}
@@ -124,7 +124,7 @@ module _ {V : Type 0} (P : Policy V) (m : Machine V) (l : Ledger V) (good : Good
         (λ (h : has b (g t).writes ≡ false). sym (quiet₃ b h) ∙ sym (cond-false (has b (g t).writes) _ _ h))
         (cases_Bool (has b (g t).writes))
 
-    all_true : All (λ (x : Answered V). ◌≡◌ {A = Bool} true true) (l.accesses t)
+    all_true : AllByRecursion (λ (x : Answered V). ◌≡◌ {A = Bool} true true) (l.accesses t)
     all_true =
         All-weaker (λ x. touched t (g t) (P.rules.orec_of x.asked.word) (f (P.rules.orec_of x.asked.word)) ≡ true) (λ x. true ≡ true)
         (λ _ _. refl) (l.accesses t) sure.touches

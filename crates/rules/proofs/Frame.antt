@@ -4,7 +4,7 @@ use Rattle.meaning.specs.Meaning.{answer, after}
 use Rattle.meaning.specs.Store.{Store, put}
 use Rattle.rules.specs.Replay.{Answered, Replays, effect, replayed, stored}
 use Rattle.std.proofs.lemmas.Bool.{both_ways, cases_Bool, cond-false}
-use Rattle.std.specs.List.{AllByRecursion as All}
+use Rattle.std.specs.List.{AllByRecursion}
 use Rattle.stock.specs.Access.{writing_access}
 use Rattle.stock.specs.Arithmetic.{Arithmetic, computed}
 use Rattle.stock.specs.Kind.{kind_of}
@@ -17,7 +17,7 @@ module _ {V : Type 0} (P : Arithmetic V) (H : ℕ → Bool) where
   Agree F G = (b : ℕ) → H b ≡ true → F b ≡ G b
 
   abbrev Within : List (Answered V) → Type 0
-  Within es = All (λ e. H e.asked.word ≡ true) es
+  Within es = AllByRecursion (λ e. H e.asked.word ≡ true) es
 
   pub answer_frame : (F G : Store V) (o : Access V) → Agree F G → H o.word ≡ true → answer P F o ≡ answer P G o
   answer_frame F G o a h = ap (λ x. computed P (kind_of o.kind) (unwrap_or x o.value) o.value) (a o.word h)

@@ -2,7 +2,7 @@
 use Rattle.std.proofs.Common.{◌≡◌, ℕ, zero, suc, ◌+◌, ◌<◌, Bool, true, false, not, List, [], ◌∷◌, is_some, Ok, Err, Result, sym, refl, ap, ◌∙◌, subst, ⊎_elim, arith}
 use Rattle.std.proofs.ByRecursion.{All-weaker}
 use Rattle.std.proofs.lemmas.Bool.{cases_Bool, cond-false, cond-true, false≢true, or_cases, true≢false}
-use Rattle.std.specs.List.{AllByRecursion as All}
+use Rattle.std.specs.List.{AllByRecursion}
 use Rattle.stock.specs.declared.access.Access.{Access}
 use Rattle.stock.specs.declared.fault.StockFault.{StockFault}
 use Rattle.stock.specs.Access.{writing_access}
@@ -49,7 +49,7 @@ module _ {V : Type 0} (P : Policy V) where
   pub run_frame :
       (H : ℕ → Bool) (os : List (Access V)) (i : ℕ) (W W' F G : Store V) (a : List V) → ((b : ℕ) → H b ≡ true → W b ≡ W' b) →
       ((b : ℕ) → H b ≡ true → F b ≡ G b) →
-      All (λ o. H o.word ≡ true) os → Alike H (from P.arithmetic W i os F a) (from P.arithmetic W' i os G a)
+      AllByRecursion (λ o. H o.word ≡ true) os → Alike H (from P.arithmetic W i os F a) (from P.arithmetic W' i os G a)
   run_frame H [] i W W' F G a e₀ e w = (refl, refl, e)
   run_frame H (o ∷ os) i W W' F G a e₀ e w =
       subst (λ x. Alike H (from P.arithmetic W i (o ∷ os) F a) (by_result x (onward W' i os o G a) (stopped W' i a)))
@@ -61,7 +61,7 @@ module _ {V : Type 0} (P : Policy V) where
   -- a word that no writing access is on keeps its value
   pub run_apart :
       (K : ℕ → Bool) (os : List (Access V)) (i : ℕ) (W F : Store V) (a : List V) (b : ℕ) →
-      All (λ o. writing_access o ≡ true → K o.word ≡ true) os → K b ≡ false → W b ≡ F b → (from P.arithmetic W i os F a).words b ≡ F b
+      AllByRecursion (λ o. writing_access o ≡ true → K o.word ≡ true) os → K b ≡ false → W b ≡ F b → (from P.arithmetic W i os F a).words b ≡ F b
   run_apart K [] i W F a b w n e = refl
   run_apart K (o ∷ os) i W F a b w n e =
       by (answer P.arithmetic F o) (onward W i os o F a) (stopped W i a)
@@ -90,7 +90,7 @@ module _ {V : Type 0} (P : Policy V) where
     abbrev lets : Machine V → Access V → Type 0
     lets m o = P.rules.gate (m.state.orecs (P.rules.orec_of o.word)).mode (under_way m.state) (writing_access o) ≡ true
 
-    pub gated_all : (m : Machine V) (os : List (Access V)) (i : ℕ) → gated P.rules m.state i os ≡ Ok tt → All (lets m) os
+    pub gated_all : (m : Machine V) (os : List (Access V)) (i : ℕ) → gated P.rules m.state i os ≡ Ok tt → AllByRecursion (lets m) os
     gated_all m [] i h = tt
     gated_all m (o ∷ os) i h =
         let c = P.rules.gate (m.state.orecs (P.rules.orec_of o.word)).mode (under_way m.state) (writing_access o) in
@@ -120,12 +120,12 @@ module _ {V : Type 0} (P : Policy V) where
       free_alone : (r : ℕ) → under_way m.state ≡ 0 → (f r).mode ≡ Free
       free_alone r e = under_way_none m.state good.inv e r
 
-      words_in : All (λ o. H o.word ≡ true) os
+      words_in : AllByRecursion (λ o. H o.word ≡ true) os
       words_in =
           All-weaker (lets m) (λ o. H o.word ≡ true)
           (λ o h. ap not (gate_mode (f (P.rules.orec_of o.word)).mode (under_way m.state) (writing_access o) (free_alone (P.rules.orec_of o.word)) h)) os (gated_all m os 0 passed)
 
-      writes_in : All (λ o. writing_access o ≡ true → K o.word ≡ true) os
+      writes_in : AllByRecursion (λ o. writing_access o ≡ true → K o.word ≡ true) os
       writes_in =
           All-weaker (lets m) (λ o. writing_access o ≡ true → K o.word ≡ true)
           (λ o h z. gate_free (f (P.rules.orec_of o.word)).mode (under_way m.state) (free_alone (P.rules.orec_of o.word))

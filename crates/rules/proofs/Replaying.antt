@@ -11,7 +11,7 @@ use Rattle.rules.specs.State.{Descriptor, owns_to_write}
 use Rattle.rules.specs.WriteSet.{has, place}
 use Rattle.std.proofs.ByRecursion.{All-weaker}
 use Rattle.std.proofs.lemmas.Bool.{cases_Bool, cond-false, cond-true, or_left}
-use Rattle.std.specs.List.{AllByRecursion as All}
+use Rattle.std.specs.List.{AllByRecursion}
 use Rattle.rules.proofs.Basics.{never}
 use Rattle.rules.proofs.Frame.{replay_frame, replayed_apart, replayed_frame}
 use Rattle.rules.proofs.Inv.{Inv, Wrote}
@@ -28,7 +28,7 @@ module _ {V : Type 0} (P : Policy V) where
       cond (has b (m.state.descriptors t).writes) (m.redo (t * 32 + place b (m.state.descriptors t).writes)) (logical m b)
 
   pub record Follows (A : Type 0) (m : Machine V) (t : ℕ) (es : List (Answered V)) : Type 0 where
-    pub touches : All (λ e. touched t (m.state.descriptors t) (P.rules.orec_of e.asked.word) (m.state.orecs (P.rules.orec_of e.asked.word)) ≡ true) es
+    pub touches : AllByRecursion (λ e. touched t (m.state.descriptors t) (P.rules.orec_of e.asked.word) (m.state.orecs (P.rules.orec_of e.asked.word)) ≡ true) es
     pub replays : A → Replays P.arithmetic (logical m) es
     pub views : A → (b : ℕ) → replayed P.arithmetic (logical m) es b ≡ view m t b
 
@@ -92,5 +92,5 @@ module _ {V : Type 0} (P : Policy V) where
               (cases_Bool (H b));
         }
       where
-        all_weaker' : (A B : Answered V → Type 0) → ((e : Answered V) → A e → B e) → (xs : List (Answered V)) → All A xs → All B xs
+        all_weaker' : (A B : Answered V → Type 0) → ((e : Answered V) → A e → B e) → (xs : List (Answered V)) → AllByRecursion A xs → AllByRecursion B xs
         all_weaker' = All-weaker

@@ -13,7 +13,7 @@
 --   SoundState         orecs and descriptors are sound and fit each other, and whoever is not idle has the priority of its begin
 --   StateSound         a new state is sound, every request keeps it so, and with no transaction under way every orec is free
 use Rattle.std.specs.Prelude.{◌≡◌, ℕ, ◌<◌, ◌≤◌, Bool, true, false, ◌&&◌, List, [], ◌∷◌, length, Some, None, Option, ◌==◌, ◌≢◌}
-use Rattle.std.specs.List.{AllByRecursion as All}
+use Rattle.std.specs.List.{AllByRecursion}
 use Rattle.policy.specs.declared.orec.Mode.TheVariants.{Free, Read, Write}
 use Rattle.policy.specs.declared.orec.OwnershipRecord.{OwnershipRecord}
 use Rattle.policy.specs.declared.priority.Priority.{Priority}
@@ -76,7 +76,7 @@ pub record SoundDescriptor (d : Descriptor) : Type 0 where
   pub reads_few : size d.reads ≤ 32
   pub reads_bound : (r : ℕ) → 64 ≤ r → d.reads r ≡ None
   pub writes_few : length d.writes ≤ 32
-  pub writes_bound : All (λ b. b < 4096) d.writes
+  pub writes_bound : AllByRecursion (λ b. b < 4096) d.writes
   pub writes_distinct : Distinct d.writes
   pub idle_reads : d.status ≡ Idle → (r : ℕ) → d.reads r ≡ None
   pub idle_writes : d.status ≡ Idle → d.writes ≡ []
