@@ -1,13 +1,15 @@
 // Why a call is declined: one enum for every layer, numbered as docs/ANSWERS.md lists them.
 #![tactic(auto)]
 
-ghost use Rattle.std.specs.Prelude.{◌≡◌};
+ghost use Rattle.std.specs.Prelude.{◌≡◌, Some};
 ghost use Rattle.decline.specs.declared.Decline.TheVariants.{Stock};
 ghost use Rattle.decline.specs.Decline.{number_of, place_of, detail_of, name_of};
 
+use std::error::Error;
+use std::fmt;
 use stock::fault::AccessFault;
 
-#[derive(Clone, Copy, PartialEq, Eq)]
+#[derive(Clone, Copy, Debug, PartialEq, Eq)]
 pub enum Decline {
     UnknownThread,
     WrongLength,
@@ -37,6 +39,7 @@ impl From<AccessFault> for Decline {
 }
 
 impl Decline {
+    // A method, and no conversion: a decline has three numbers, and each needs its name.
     pub fn number(self) -> u8
         ensures { result ≡ number_of self }
     {
@@ -80,7 +83,7 @@ impl Decline {
         match self {
             Decline::Wait(thread) => thread,
             Decline::GateClosed(_, orec) => orec,
-            Decline::Stock(fault) => fault.fault.number(),
+            Decline::Stock(fault) => u8::from(fault.fault),
             _ => 0,
         }
     }
@@ -108,3 +111,13 @@ impl Decline {
         }
     }
 }
+
+impl fmt::Display for Decline {
+    ghost output = { λ decline. Some (name_of decline) };
+
+    fn fmt<W: fmt::Write>(&self, f: &mut fmt::Formatter<W>) -> fmt::Result {
+        f.write_str(self.name())
+    }
+}
+
+impl Error for Decline {}

@@ -5,6 +5,7 @@
 --   lotted       the same, the empty lot where there is none
 --   lot_draws    an empty given lot leaves the old one; else batches must agree; short if too much is drawn; drawn to 0 is empty
 --   lot_stows    an empty given lot leaves the old one; into the empty lot goes the given one; else batches must agree; over above the limit
+--   lot_arithmetic   the two of them
 --   lot_code     batch + 4,294,967,296 × count
 --   lot_decode   the lot that a code stands for, if any
 use Rattle.std.specs.Prelude.{◌≡◌, ℕ, ◌+◌, ◌-◌, ◌*◌, ◌/◌, ◌%◌, Bool, true, false, cond, not, Some, None, Ok, Err, Option, Result, ◌==◌, nat_lt, refl}
@@ -13,6 +14,7 @@ use Rattle.stock.specs.declared.fault.StockFault.{StockFault}
 use Rattle.stock.specs.declared.fault.StockFault.TheVariants.{Short, Over, OtherBatch}
 use Rattle.stock.specs.declared.lot.Lot.{Lot}
 use Rattle.stock.specs.LotShape.{lot_sound}
+use Rattle.stock.specs.Arithmetic.{Arithmetic}
 
 abbrev pub no_lot : Lot
 no_lot = record { batch = 0; count = 0; sound = refl }
@@ -42,6 +44,9 @@ lot_stows old given =
     (cond (not (given.batch == old.batch)) (Err OtherBatch)
     (cond (nat_lt 999999 (old.count + given.count)) (Err Over)
     (Ok (lotted old.batch (old.count + given.count))))))
+
+abbrev pub lot_arithmetic : Arithmetic Lot
+lot_arithmetic = record { draw = lot_draws; stow = lot_stows }
 
 abbrev pub lot_code : Lot → ℕ
 lot_code l = l.batch + 4294967296 * l.count

@@ -2,18 +2,18 @@
 ghost use Rattle.std.specs.Prelude.{◌≡◌};
 ghost use Rattle.stock.specs.Fault.{fault_number, alone};
 
-#[derive(Clone, Copy, PartialEq, Eq)]
+#[derive(Clone, Copy, Debug, PartialEq, Eq)]
 pub enum StockFault {
     Short,
     Over,
     OtherBatch,
 }
 
-impl StockFault {
-    pub fn number(self) -> u8
-        ensures { result ≡ fault_number self }
-    {
-        match self {
+impl From<StockFault> for u8 {
+    ghost from_gives = { λ fault number. number ≡ fault_number fault };
+
+    fn from(fault: StockFault) -> u8 {
+        match fault {
             StockFault::Short => 1,
             StockFault::Over => 2,
             StockFault::OtherBatch => 3,
@@ -22,7 +22,7 @@ impl StockFault {
 }
 
 // The stock fault whole, with the place of its access.
-#[derive(Clone, Copy, PartialEq, Eq)]
+#[derive(Clone, Copy, Debug, PartialEq, Eq)]
 pub struct AccessFault {
     pub place: usize,
     pub fault: StockFault,

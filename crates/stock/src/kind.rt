@@ -1,6 +1,9 @@
 // The four kinds of access, by number as the formats have them.
-ghost use Rattle.std.specs.Prelude.{◌≡◌};
-ghost use Rattle.stock.specs.Kind.{kind_number, kind_of, writes};
+ghost use Rattle.std.specs.Prelude.{◌≡◌, Some};
+ghost use Rattle.stock.specs.Kind.{kind_number, Decodes, unknown_kind_text, writes};
+
+use std::error::Error;
+use std::fmt;
 
 #[derive(Clone, Copy, PartialEq, Eq)]
 pub enum AccessKind {
@@ -10,31 +13,11 @@ pub enum AccessKind {
     Stow,
 }
 
+// A number that is no kind's.
+#[derive(Clone, Copy, Debug, PartialEq, Eq)]
+pub struct UnknownKind(pub u8);
+
 impl AccessKind {
-    pub fn number(self) -> u8
-        ensures { result ≡ kind_number self }
-    {
-        match self {
-            AccessKind::Look => 0,
-            AccessKind::Put => 1,
-            AccessKind::Draw => 2,
-            AccessKind::Stow => 3,
-        }
-    }
-
-    // Nothing for a number that is no kind's.
-    pub fn from_number(number: u8) -> Option<AccessKind>
-        ensures { result ≡ kind_of number }
-    {
-        match number {
-            0 => Some(AccessKind::Look),
-            1 => Some(AccessKind::Put),
-            2 => Some(AccessKind::Draw),
-            3 => Some(AccessKind::Stow),
-            _ => None,
-        }
-    }
-
     pub fn is_writing(self) -> bool
         ensures { result ≡ writes self }
     {
@@ -44,3 +27,42 @@ impl AccessKind {
         }
     }
 }
+
+impl From<AccessKind> for u8 {
+    ghost from_gives = { λ kind number. number ≡ kind_number kind };
+
+    fn from(kind: AccessKind) -> u8 {
+        match kind {
+            AccessKind::Look => 0,
+            AccessKind::Put => 1,
+            AccessKind::Draw => 2,
+            AccessKind::Stow => 3,
+        }
+    }
+}
+
+impl TryFrom<u8> for AccessKind {
+    type Error = UnknownKind;
+
+    ghost try_from_gives = { Decodes };
+
+    fn try_from(number: u8) -> Result<Self, UnknownKind> {
+        match number {
+            0 => Ok(AccessKind::Look),
+            1 => Ok(AccessKind::Put),
+            2 => Ok(AccessKind::Draw),
+            3 => Ok(AccessKind::Stow),
+            _ => Err(UnknownKind(number)),
+        }
+    }
+}
+
+impl fmt::Display for UnknownKind {
+    ghost output = { λ unknown. Some (unknown_kind_text unknown) };
+
+    fn fmt<W: fmt::Write>(&self, f: &mut fmt::Formatter<W>) -> fmt::Result {
+        write!(f, "no kind of access has the number {}", self.0)
+    }
+}
+
+impl Error for UnknownKind {}

@@ -1,25 +1,22 @@
 // What a stock value is: how it is drawn from and stowed into, and the number that stands for it in a file.
-ghost use Rattle.std.specs.Prelude.{◌≡◌, ℕ, ◌^◌, ◌<◌, Some, Option, Result};
-ghost use Rattle.stock.specs.declared.fault.StockFault.{StockFault};
+ghost use Rattle.std.specs.Prelude.{◌≡◌, ℕ, ◌^◌, ◌<◌, Some, Option};
+ghost use Rattle.stock.specs.Arithmetic.{Arithmetic};
 
 use crate::fault::StockFault;
 
 pub trait Stock: Sized {
-    // What is left of an old value when a given one is drawn from it.
-    ghost draws: { Self → Self → Result Self StockFault };
-
-    // What an old value becomes when a given one is stowed into it.
-    ghost stows: { Self → Self → Result Self StockFault };
+    // What is left of an old value when a given one is drawn from it, and what it becomes when one is stowed into it.
+    ghost arithmetic: { Arithmetic Self };
 
     ghost codes: { Self → ℕ };
 
     ghost decodes: { ℕ → Option Self };
 
     fn draw(self, given: Self) -> Result<Self, StockFault>
-        ensures { result ≡ draws self given };
+        ensures { result ≡ arithmetic.draw self given };
 
     fn stow(self, given: Self) -> Result<Self, StockFault>
-        ensures { result ≡ stows self given };
+        ensures { result ≡ arithmetic.stow self given };
 
     fn code(self) -> u64
         ensures { result ≡ codes self };

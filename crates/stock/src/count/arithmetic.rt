@@ -1,5 +1,5 @@
 ghost use Rattle.std.specs.Prelude.{◌≡◌, ◌≤◌};
-ghost use Rattle.stock.specs.Count.{count, counted, count_draws, count_stows};
+ghost use Rattle.stock.specs.Count.{count, counted, count_arithmetic};
 ghost use Rattle.stock.specs.SameCount.{count_fits, count_back, count_value};
 
 use crate::count::Count;
@@ -8,6 +8,7 @@ use crate::value::Stock;
 
 pub const MAX: u32 = 999_999;
 
+#[tactic(auto, using(crate::specs::SameCount::counted_is))]
 fn count_of(value: u32) -> Count
     requires { value ≤ 999999 }
     ensures { result ≡ counted value }
@@ -34,9 +35,7 @@ impl Count {
 }
 
 impl Stock for Count {
-    ghost draws = { count_draws };
-
-    ghost stows = { count_stows };
+    ghost arithmetic = { count_arithmetic };
 
     ghost codes = { λ c. c.value };
 
@@ -69,10 +68,6 @@ impl Stock for Count {
     }
 
     fn decode(code: u64) -> Option<Count> {
-        if code <= MAX as u64 {
-            Some(count_of(code as u32))
-        } else {
-            None
-        }
+        u32::try_from(code).ok().and_then(Count::new)
     }
 }

@@ -1,6 +1,6 @@
 ghost use Rattle.std.specs.Prelude.{◌≡◌, true};
 ghost use Rattle.stock.specs.LotShape.{lot_sound};
-ghost use Rattle.stock.specs.Lot.{lot, lotted, no_lot, lot_draws, lot_stows, lot_code, lot_decode};
+ghost use Rattle.stock.specs.Lot.{lot, lotted, no_lot, lot_arithmetic, lot_code, lot_decode};
 ghost use Rattle.stock.specs.SameLot.{lot_fits, lot_back, lot_sole};
 
 use crate::fault::StockFault;
@@ -17,6 +17,7 @@ fn is_sound(batch: u32, count: u32) -> bool
     batch <= MAX_BATCH && count <= MAX_COUNT && (batch == 0) == (count == 0)
 }
 
+#[tactic(auto, using(crate::specs::SameLot::lotted_is))]
 fn lot_of(batch: u32, count: u32) -> Lot
     requires { lot_sound batch count ≡ true }
     ensures { result ≡ lotted batch count }
@@ -25,6 +26,7 @@ fn lot_of(batch: u32, count: u32) -> Lot
 }
 
 impl Lot {
+    #[tactic(auto, using(crate::specs::SameLot::lotted_is))]
     pub fn empty() -> Lot
         ensures { result ≡ no_lot }
     {
@@ -55,9 +57,7 @@ impl Lot {
 }
 
 impl Stock for Lot {
-    ghost draws = { lot_draws };
-
-    ghost stows = { lot_stows };
+    ghost arithmetic = { lot_arithmetic };
 
     ghost codes = { lot_code };
 
