@@ -1,4 +1,5 @@
 pub mod Check
+pub mod Laid
 pub mod Meaning
 pub mod Perform
 pub mod Step

@@ -14,10 +14,7 @@ pub const MAX_ACCESSES: usize = 64;
 pub fn is_writing<V>(access: &Access<V>) -> bool
     ensures { result ≡ writing_access access.now }
 {
-    match AccessKind::from_number(access.kind) {
-        Some(kind) => kind.is_writing(),
-        None => false,
-    }
+    AccessKind::try_from(access.kind).is_ok_and(|kind| kind.is_writing())
 }
 
 // Words are lent in any number from 1 to 4,096.
@@ -37,16 +34,15 @@ pub fn is_wrong_access_count(accesses: usize, answers: usize) -> bool
 fn check_access<V>(access: &Access<V>, place: usize, words: usize) -> Result<(), Decline>
     ensures { result ≡ check_access place words access.now }
 {
-    if AccessKind::from_number(access.kind).is_none() {
-        Err(Decline::UnknownKind(place))
-    } else if access.word as usize >= words {
-        Err(Decline::UnknownWord(place))
-    } else {
-        Ok(())
+    AccessKind::try_from(access.kind).map_err(|_| Decline::UnknownKind(place))?;
+    if access.word as usize >= words {
+        return Err(Decline::UnknownWord(place));
     }
+    Ok(())
 }
 
 // Access by access, kind before word: the first that fails counts.
+#[tactic(auto, using(crate::proofs::CheckSteps::passes_on, crate::proofs::CheckSteps::stops_here))]
 pub fn check_accesses<V>(accesses: &[Access<V>], words: usize) -> Result<(), Decline>
     ensures { result ≡ checked 0 words accesses.now }
 {

@@ -2,6 +2,7 @@
 #![tactic(auto)]
 
 pub mod check;
+pub mod log;
 pub mod perform;
 pub mod slots;
 mod step;

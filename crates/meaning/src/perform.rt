@@ -1,6 +1,5 @@
 // A hardware transaction by its meaning, on words that nobody else uses meanwhile.
 ghost use Rattle.std.specs.Prelude.{◌≡◌, length};
-ghost use Rattle.stock.specs.Arithmetic.{arithmetic_of};
 ghost use Rattle.meaning.specs.Perform.{admitted, performed};
 ghost use Rattle.meaning.specs.Store.{nth};
 
@@ -29,15 +28,16 @@ fn admit<V>(
 }
 
 // `saved` is work space of 64 values, a place for each access that there can be.
+#[tactic(auto, using(crate::proofs::Admitted::admitted_ready, crate::proofs::Writes::writes_few, crate::proofs::Passed::ready_few))]
 pub fn perform<V: Stock + Copy>(
     words: &mut [V],
     accesses: &[Access<V>],
     answers: &mut [V],
     saved: &mut [V],
 ) -> Result<(), Decline>
-    ensures outcome { result ≡ (performed (arithmetic_of V.draws V.stows) accesses.now (length words.old) (nth words.old) answers.old (length saved.old)).outcome }
-    ensures words { nth words.new ≡ (performed (arithmetic_of V.draws V.stows) accesses.now (length words.old) (nth words.old) answers.old (length saved.old)).words }
-    ensures answers { answers.new ≡ (performed (arithmetic_of V.draws V.stows) accesses.now (length words.old) (nth words.old) answers.old (length saved.old)).answers }
+    ensures outcome { result ≡ (performed V.arithmetic accesses.now (length words.old) (nth words.old) answers.old (length saved.old)).outcome }
+    ensures words { nth words.new ≡ (performed V.arithmetic accesses.now (length words.old) (nth words.old) answers.old (length saved.old)).words }
+    ensures answers { answers.new ≡ (performed V.arithmetic accesses.now (length words.old) (nth words.old) answers.old (length saved.old)).answers }
 {
     admit(words.len(), accesses, answers.len(), saved.len())?;
     run_saving(words, accesses, answers, saved)?;

@@ -2,6 +2,7 @@
 ghost use Rattle.std.specs.Prelude.{◌≡◌, ◌<◌, length, Some, slice_set};
 ghost use Rattle.meaning.specs.Store.{nth};
 
+#[tactic(auto, using(crate::proofs::Stores::nth_is))]
 pub fn load<V: Copy>(values: &[V], place: usize) -> V
     requires { place < length values.now }
     ensures { nth values.now place ≡ Some result }

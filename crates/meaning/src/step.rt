@@ -1,6 +1,5 @@
 // One access on the words.
 ghost use Rattle.std.specs.Prelude.{◌≡◌, ◌<◌, length};
-ghost use Rattle.stock.specs.Arithmetic.{arithmetic_of};
 ghost use Rattle.meaning.specs.Meaning.{answer};
 ghost use Rattle.meaning.specs.Step.{ended, words_after, answers_after};
 ghost use Rattle.meaning.specs.Store.{nth};
@@ -20,20 +19,17 @@ pub fn step<V: Stock + Copy>(
     answers: &mut [V],
 ) -> Result<(), AccessFault>
     requires { (access.word < length words.old) × (place < length answers.old) }
-    ensures outcome { result ≡ ended place (answer (arithmetic_of V.draws V.stows) (nth words.old) access) }
-    ensures words { words.new ≡ words_after (answer (arithmetic_of V.draws V.stows) (nth words.old) access) access words.old }
-    ensures answers { answers.new ≡ answers_after (answer (arithmetic_of V.draws V.stows) (nth words.old) access) place access answers.old }
+    ensures outcome { result ≡ ended place (answer V.arithmetic (nth words.old) access) }
+    ensures words { words.new ≡ words_after (answer V.arithmetic (nth words.old) access) access words.old }
+    ensures answers { answers.new ≡ answers_after (answer V.arithmetic (nth words.old) access) place access answers.old }
 {
     let old = load(words, access.word as usize);
-    match compute(AccessKind::from_number(access.kind), old, access.value) {
-        Ok(new) => {
-            if is_writing(&access) {
-                store(words, access.word as usize, new);
-            } else {
-                store(answers, place, new);
-            }
-            Ok(())
-        }
-        Err(fault) => Err(AccessFault { place, fault }),
+    let kind = AccessKind::try_from(access.kind).ok();
+    let new = compute(kind, old, access.value).map_err(|fault| AccessFault { place, fault })?;
+    if is_writing(&access) {
+        store(words, access.word as usize, new);
+    } else {
+        store(answers, place, new);
     }
+    Ok(())
 }

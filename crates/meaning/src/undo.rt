@@ -1,64 +1,46 @@
-// A transaction run on the words themselves: old values are saved, and put back at a stock fault.
-ghost use Rattle.std.specs.Prelude.{◌≡◌, ℕ, ◌+◌, ◌-◌, ◌<◌, ◌≤◌, reverse, length, take};
-ghost use Rattle.std.specs.Option.{unwrap_or};
+// A transaction run on the words themselves: old values are saved in a log, and put back at a stock fault.
+ghost use Rattle.std.specs.Prelude.{◌≡◌, ◌+◌, ◌<◌, ◌≤◌, true, length, All, Result};
+ghost use Rattle.arrayvec.specs.ArrayVec.{array_vec_len};
+ghost use Rattle.stock.specs.declared.fault.StockFault.{StockFault};
 ghost use Rattle.stock.specs.Access.{writing_access};
-ghost use Rattle.stock.specs.Arithmetic.{arithmetic_of};
-ghost use Rattle.meaning.specs.Check.{Inside, Ready};
+ghost use Rattle.meaning.specs.Check.{Ready};
+ghost use Rattle.meaning.specs.Laid.{laid};
 ghost use Rattle.meaning.specs.Meaning.{meaning};
+ghost use Rattle.meaning.specs.Step.{words_after};
 ghost use Rattle.meaning.specs.Store.{nth};
-ghost use Rattle.meaning.specs.Undo.{one, writes_in, last_first, undone, saved_by, restored_by, fewer_by};
+ghost use Rattle.meaning.specs.Undo.{one, writes_in};
 
-use crate::check::is_writing;
+use crate::check::{MAX_ACCESSES, is_writing};
+use crate::log::copy_out;
 use crate::slots::{load, store};
 use crate::step::step;
+use arrayvec::ArrayVec;
 use stock::access::Access;
 use stock::fault::AccessFault;
 use stock::value::Stock;
 
-// Saves the word of a writing access, and says how many are saved now.
-fn save<V: Copy>(words: &[V], access: &Access<V>, saved: &mut [V], n: usize) -> usize
-    requires { (access.now.word < length words.now) × (n + one (writing_access access.now) ≤ length saved.old) }
-    ensures count { result ≡ n + one (writing_access access.now) }
-    ensures saved { saved.new ≡ saved_by (writing_access access.now) n (unwrap_or (nth words.now access.now.word) access.now.value) saved.old }
+// Saves the word that an access writes, so that whatever it leaves there is undone.
+#[tactic(auto, using(crate::proofs::Laying::saved_one))]
+fn save<V: Copy>(
+    words: &[V],
+    access: &Access<V>,
+    places: &mut ArrayVec<u32, MAX_ACCESSES>,
+    saved: &mut [V],
+)
+    requires inside { access.now.word < length words.now }
+    requires room { writing_access access.now ≡ true → (array_vec_len places.old < 64) × (array_vec_len places.old < length saved.old) }
+    ensures count { array_vec_len places.new ≡ array_vec_len places.old + one (writing_access access.now) }
+    ensures inside { All (λ place. place < length words.now) places.old.items → All (λ place. place < length words.now) places.new.items }
+    ensures undoes { (r : Result V StockFault) → array_vec_len places.old ≤ length saved.old → laid places.new.items saved.new (words_after r access.now words.now) ≡ laid places.old.items saved.old words.now }
 {
     if is_writing(access) {
-        let old = load(words, access.word as usize);
-        store(saved, n, old);
-        n + 1
-    } else {
-        n
-    }
-}
-
-// Puts the word of a writing access back, and says how many are saved still.
-fn restore_one<V: Copy>(words: &mut [V], access: &Access<V>, saved: &[V], n: usize) -> usize
-    requires { (access.now.word < length words.old) × ((n ≤ length saved.now) × (one (writing_access access.now) ≤ n)) }
-    ensures count { result ≡ fewer_by (writing_access access.now) n }
-    ensures words { words.new ≡ restored_by (writing_access access.now) access.now.word (unwrap_or (nth saved.now (n - 1)) access.now.value) words.old }
-{
-    if is_writing(access) {
-        let old = load(saved, n - 1);
-        store(words, access.word as usize, old);
-        n - 1
-    } else {
-        n
-    }
-}
-
-// Puts everything back that the accesses wrote, the latest first.
-fn restore<V: Copy>(words: &mut [V], accesses: &[Access<V>], saved: &[V], n: usize)
-    requires { (Inside (length words.old) accesses.now) × ((n ≡ writes_in accesses.now) × (n ≤ length saved.now)) }
-    ensures { words.new ≡ undone (last_first accesses.now) (reverse (take n saved.now)) words.old }
-{
-    let mut left = n;
-    let mut i = accesses.len();
-    while i > 0 {
-        i -= 1;
-        left = restore_one(words, &accesses[i], saved, left);
+        store(saved, places.len(), load(words, access.word as usize));
+        places.push(access.word);
     }
 }
 
 // The meaning of the accesses, which have passed the checks, with as many places for saved values as they write.
+#[tactic(auto, using(crate::proofs::Writes::writes_le, crate::proofs::Writes::writes_next, crate::proofs::Passed::ready_word, crate::proofs::Passed::ready_places, crate::proofs::Passed::ready_few, crate::proofs::Writes::writes_few, crate::proofs::Course::goes_on, crate::proofs::Course::ends_here, crate::proofs::Course::all_done))]
 pub fn run_saving<V: Stock + Copy>(
     words: &mut [V],
     accesses: &[Access<V>],
@@ -66,16 +48,15 @@ pub fn run_saving<V: Stock + Copy>(
     saved: &mut [V],
 ) -> Result<(), AccessFault>
     requires { (Ready (length words.old) accesses.now (length answers.old)) × (writes_in accesses.now ≤ length saved.old) }
-    ensures outcome { result ≡ (meaning (arithmetic_of V.draws V.stows) accesses.now (nth words.old) answers.old).result }
-    ensures words { nth words.new ≡ (meaning (arithmetic_of V.draws V.stows) accesses.now (nth words.old) answers.old).words }
-    ensures answers { answers.new ≡ (meaning (arithmetic_of V.draws V.stows) accesses.now (nth words.old) answers.old).answers }
+    ensures outcome { result ≡ (meaning V.arithmetic accesses.now (nth words.old) answers.old).result }
+    ensures words { nth words.new ≡ (meaning V.arithmetic accesses.now (nth words.old) answers.old).words }
+    ensures answers { answers.new ≡ (meaning V.arithmetic accesses.now (nth words.old) answers.old).answers }
 {
-    let mut n: usize = 0;
-    for i in 0..accesses.len() {
-        let access = accesses[i];
-        n = save(words, &access, saved, n);
-        if let Err(fault) = step(words, access, i, answers) {
-            restore(words, &accesses[0..i + 1], saved, n);
+    let mut places = ArrayVec::<u32, MAX_ACCESSES>::new();
+    for (i, access) in accesses.iter().enumerate() {
+        save(words, access, &mut places, saved);
+        if let Err(fault) = step(words, *access, i, answers) {
+            copy_out(words, places.as_slice(), saved);
             return Err(fault);
         }
     }
