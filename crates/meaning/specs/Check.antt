@@ -5,7 +5,7 @@
 --   checked              access by access from place i on: the first that fails counts
 --   Ready                all of these passed
 --   Inside               each access is to one of these words
-use Rattle.std.specs.Prelude.{◌≡◌, ℕ, ◌+◌, ◌<◌, Bool, false, cond, not, ◌||◌, List, [], ◌∷◌, length, is_some, Ok, Err, Result, ◌==◌, nat_le, nat_lt, slice_index_or}
+use Rattle.std.specs.Prelude.{◌≡◌, ℕ, ◌+◌, ◌<◌, Bool, false, cond, not, ◌||◌, List, [], ◌∷◌, length, is_some, Ok, Err, Result, ◌==◌, nat_le, nat_lt, All}
 use Rattle.stock.specs.declared.access.Access.{Access}
 use Rattle.decline.specs.declared.Decline.{Decline}
 use Rattle.decline.specs.declared.Decline.TheVariants.{UnknownKind, UnknownWord}
@@ -38,4 +38,4 @@ module _ {V : Type 0} where
     pub passed : checked 0 words accesses ≡ Ok tt
 
   abbrev pub Inside : ℕ → List (Access V) → Type 0
-  Inside words accesses = (k : ℕ) (d : Access V) → k < length accesses → (slice_index_or accesses k d).word < words
+  Inside words accesses = All (λ a. a.word < words) accesses

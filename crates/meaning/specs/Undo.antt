@@ -1,7 +1,7 @@
 -- How many accesses write, and so how many words are saved.
 --   one         1 for a writing access, else 0
 --   writes_in   how many accesses write
-use Rattle.std.specs.Prelude.{ℕ, ◌+◌, Bool, cond, List, fold}
+use Rattle.std.specs.Prelude.{ℕ, Bool, cond, List, count_by}
 use Rattle.stock.specs.declared.access.Access.{Access}
 use Rattle.stock.specs.Access.{writing_access}
 
@@ -9,4 +9,4 @@ abbrev pub one : Bool → ℕ
 one b = cond b 1 0
 
 abbrev pub writes_in : {V : Type 0} → List (Access V) → ℕ
-writes_in xs = fold (λ n a. n + one (writing_access a)) 0 xs
+writes_in xs = count_by writing_access xs
