@@ -1,4 +1,2 @@
-mod Asides
+pub mod Fitting
 mod Laying
-mod NumberSteps
-mod RunFit

@@ -1,15 +1,9 @@
 // Where a word stands in a list of word numbers.
-ghost use Rattle.std.specs.Prelude.{◌≡◌, ◌<◌, length, IfSome};
-ghost use Rattle.hardware.specs.Limits.{place_from};
+ghost use Rattle.std.specs.Prelude.{◌≡◌, ◌<◌, length, position, IfSome, ◌==◌};
 
 pub fn place_of(words: &[u32], word: u32) -> Option<usize>
-    ensures value { result ≡ place_from word 0 words.now }
-    ensures within { IfSome result (λ j. j < length words.now) }
+    ensures value { result ≡ position (λ w. w == word) words.now }
+    ensures within { IfSome result (λ place. place < length words.now) }
 {
-    for (i, w) in words.iter().enumerate() {
-        if *w == word {
-            return Some(i);
-        }
-    }
-    None
+    words.iter().position(|w| *w == word)
 }

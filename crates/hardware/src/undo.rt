@@ -5,10 +5,10 @@ ghost use Rattle.hardware.specs.Limits.{write_count};
 ghost use Rattle.hardware.specs.Folding.{count_fits};
 
 use crate::path::HardwarePath;
-use decline::Decline;
 use meaning::check::is_writing;
 use meaning::undo::run_saving;
 use stock::access::Access;
+use stock::fault::AccessFault;
 use stock::value::Stock;
 
 // As many saved values as there are work values.
@@ -17,13 +17,7 @@ pub const MAX_WRITES: usize = 32;
 fn count_writes<V>(accesses: &[Access<V>]) -> usize
     ensures { result ≡ write_count (shapes accesses.now) }
 {
-    let mut n: usize = 0;
-    for access in accesses {
-        if is_writing(access) {
-            n += 1;
-        }
-    }
-    n
+    accesses.iter().filter(|access| is_writing(*access)).count()
 }
 
 #[derive(Clone, Copy)]
@@ -38,17 +32,13 @@ impl HardwarePath for UndoLog {
         count_writes(accesses) <= MAX_WRITES
     }
 
-    fn run<V: Stock + Copy>(
+    fn run_fitting<V: Stock + Copy>(
         &self,
         words: &mut [V],
         accesses: &[Access<V>],
         answers: &mut [V],
         work: &mut [V],
-    ) -> Result<(), Decline> {
-        if !self.fits(accesses) {
-            return Err(Decline::Unfit);
-        }
-        run_saving(words, accesses, answers, work)?;
-        Ok(())
+    ) -> Result<(), AccessFault> {
+        run_saving(words, accesses, answers, work)
     }
 }

@@ -1,18 +1,44 @@
-use Rattle.std.proofs.Common.{◌-◌, arith, rules}
-use Rattle.std.proofs.lemmas.List.{length-take}
-use Rattle.hardware.proofs.Laying.{there_already, new_there}
+use Rattle.std.proofs.Common.{length, ap, ◌∙◌, arith}
+use Rattle.hardware.proofs.Laying.{absent, aside_there, aside_new, with_there, with_absent}
 use Rattle.hardware.proofs.overlay.set_aside.Goals as goal
 
-pub returns-in-Some : goal.returns-in-Some
-returns-in-Some g c =
-    let e = c.in-Some.ensures in
-    let p = there_already c.args.places.now c.args.work.now c.store.new.values c.args.n c.in-Some.j c.args.word c.args.value e.value
-    (omega (arith, e.within, length-take (c.args.n - 0) c.args.places.now)) c.store.ensures in
-    record { fits = search rules; places = p.0; work = p.1 }
+pub store-requires-in-None : goal.store-requires-in-None
+store-requires-in-None g c =
+    omega (
+      arith,
+      c.len.ensures.value,
+      c.requires.long,
+      c.requires.room (absent c.args.word c.as_slice.result.now c.args.places.now.items c.place_of.result
+          c.as_slice.ensures.value c.place_of.ensures.value c.in-None.is),
+    )
 
-pub returns-in-None : goal.returns-in-None
-returns-in-None g c =
-    let e = c.in-None.ensures in
-    let p = new_there c.args.places.now c.store-in-None.new.values c.args.work.now c.store-in-None-2.new.values c.args.n c.args.word c.args.value e.value
-    (search rules) (search rules) c.store-in-None.ensures c.store-in-None-2.ensures in
-    record { fits = search rules; places = p.0; work = p.1 }
+pub push-requires : goal.push-requires
+push-requires g c = (
+  omega arith,
+  c.requires.room (absent c.args.word c.as_slice.result.now c.args.places.now.items c.place_of.result
+      c.as_slice.ensures.value c.place_of.ensures.value c.in-None.is),
+)
+
+pub returns-in-Some-clause-places : goal.returns-in-Some-clause-places
+returns-in-Some-clause-places g c =
+    with_there c.args.word c.in-Some.place c.as_slice.result.now c.args.places.now.items c.place_of.result
+    c.as_slice.ensures.value c.place_of.ensures.value c.in-Some.is
+
+pub returns-in-Some-clause-words : goal.returns-in-Some-clause-words
+returns-in-Some-clause-words g c = λ ws.
+    aside_there c.args.word c.as_slice.result.now c.args.places.now.items c.args.work.now ws c.args.value c.place_of.result
+    c.as_slice.ensures.value c.place_of.ensures.value c.in-Some.place c.store.new.values c.in-Some.is
+    (omega (arith, c.as_slice.ensures.fits, c.requires.long, ap length c.as_slice.ensures.value)) c.store.ensures
+
+pub returns-in-None-clause-places : goal.returns-in-None-clause-places
+returns-in-None-clause-places g c =
+    c.push.ensures.items ∙ with_absent c.args.word c.as_slice.result.now c.args.places.now.items c.place_of.result
+    c.as_slice.ensures.value c.place_of.ensures.value c.in-None.is
+
+pub returns-in-None-clause-words : goal.returns-in-None-clause-words
+returns-in-None-clause-words g c =
+    let room = c.requires.room (absent c.args.word c.as_slice.result.now c.args.places.now.items c.place_of.result
+    c.as_slice.ensures.value c.place_of.ensures.value c.in-None.is) in
+    λ ws. aside_new c.args.word c.as_slice.result.now c.args.places.now.items c.args.work.now ws c.args.value c.place_of.result
+    c.as_slice.ensures.value c.place_of.ensures.value c.len.result c.push.new.self.items c.store-in-None.new.values c.in-None.is
+    c.len.ensures.value (omega (arith, c.len.ensures.value, c.requires.long, room)) c.push.ensures.items c.store-in-None.ensures
