@@ -37,7 +37,7 @@ impl ContentionManager for ByStart {
     ghost decided = { Prim.search rules };
 
     fn precedes(&self, one: Priority, other: Priority) -> bool {
-        one.start < other.start || one.start == other.start && one.thread < other.thread
+        (one.start, one.thread) < (other.start, other.thread)
     }
 }
 

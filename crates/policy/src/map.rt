@@ -1,4 +1,4 @@
-// Which ownership record a word has.
+// Which ownership record a word has. The maps cast by `as usize`, since std has no From from u32 to usize.
 ghost use Rattle.std.specs.Prelude.{◌≡◌, ℕ, ◌<◌};
 ghost use Rattle.policy.specs.Maps.{by_quotient, by_remainder, by_scatter};
 ghost use Rattle.std.proofs.Common.{rules};

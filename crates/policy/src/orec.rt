@@ -1,19 +1,28 @@
 // Ownership records: who owns the words that map to one of them.
-ghost use Rattle.std.specs.Prelude.{◌≡◌};
+ghost use Rattle.std.specs.Prelude.{◌≡◌, ◌++◌, None, Some, MatchResult, codes, decimal};
 ghost use Rattle.policy.specs.Orec.{mode_number, new_record, readers_fit, well_formed};
+ghost use Rattle.policy.specs.Packing.{mode_of};
 
-#[derive(Clone, Copy, PartialEq, Eq)]
+use std::error::Error;
+use std::fmt;
+
+#[derive(Clone, Copy, Debug, Default, PartialEq, Eq)]
 pub enum Mode {
+    #[default]
     Free,
     Read,
     Write,
 }
 
-impl Mode {
-    pub fn number(self) -> u8
-        ensures { result ≡ mode_number self }
-    {
-        match self {
+// A number that no mode has.
+#[derive(Clone, Copy, Debug, PartialEq, Eq)]
+pub struct UnknownMode(pub u8);
+
+impl From<Mode> for u8 {
+    ghost from_gives = { λ mode number. number ≡ mode_number mode };
+
+    fn from(mode: Mode) -> u8 {
+        match mode {
             Mode::Free => 0,
             Mode::Read => 1,
             Mode::Write => 2,
@@ -21,13 +30,40 @@ impl Mode {
     }
 }
 
+impl TryFrom<u8> for Mode {
+    type Error = UnknownMode;
+
+    ghost try_from_gives = { λ number outcome. MatchResult outcome
+        (λ mode. mode_of number ≡ Some mode)
+        (λ unknown. (mode_of number ≡ None) × (unknown.0 ≡ number)) };
+
+    fn try_from(number: u8) -> Result<Self, UnknownMode> {
+        match number {
+            0 => Ok(Mode::Free),
+            1 => Ok(Mode::Read),
+            2 => Ok(Mode::Write),
+            _ => Err(UnknownMode(number)),
+        }
+    }
+}
+
+impl fmt::Display for UnknownMode {
+    ghost output = { λ unknown. Some (codes "no mode has the number " ++ decimal unknown.0) };
+
+    fn fmt<W: fmt::Write>(&self, f: &mut fmt::Formatter<W>) -> fmt::Result {
+        write!(f, "no mode has the number {}", self.0)
+    }
+}
+
+impl Error for UnknownMode {}
+
 pub const MOST_READERS: u8 = 16;
 
 pub const LAST_THREAD: u8 = 15;
 
 pub const LAST_VERSION: u32 = 1_000_000;
 
-#[derive(Clone, Copy, PartialEq, Eq)]
+#[derive(Clone, Copy, Debug, Default, PartialEq, Eq)]
 pub struct OwnershipRecord {
     pub mode: Mode,
     pub readers: u8,
@@ -40,12 +76,7 @@ impl OwnershipRecord {
     pub fn new() -> OwnershipRecord
         ensures { result ≡ new_record }
     {
-        OwnershipRecord {
-            mode: Mode::Free,
-            readers: 0,
-            thread: 0,
-            version: 0,
-        }
+        OwnershipRecord::default()
     }
 
     pub fn is_well_formed(&self) -> bool
@@ -61,8 +92,7 @@ fn readers_fit(mode: Mode, readers: u8) -> bool
     ensures { result ≡ readers_fit mode readers }
 {
     match mode {
-        Mode::Free => readers == 0,
-        Mode::Read => 1 <= readers && readers <= MOST_READERS,
-        Mode::Write => readers == 0,
+        Mode::Free | Mode::Write => readers == 0,
+        Mode::Read => (1..=MOST_READERS).contains(&readers),
     }
 }

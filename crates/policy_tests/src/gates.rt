@@ -16,12 +16,16 @@ fn answers<G: Gate>(gate: &G, under_way: usize) -> [bool; 6] {
 
 #[test]
 fn by_record(rt: HostRuntime) {
-    assert!(rt; answers(&ByRecord, 0) == [true, true, true, false, false, false]);
-    assert!(rt; answers(&ByRecord, 1) == [true, true, true, false, false, false]);
+    for under_way in [0, 1] {
+        assert_eq!(rt;
+            answers(&ByRecord, under_way),
+            [true, true, true, false, false, false]
+        );
+    }
 }
 
 #[test]
 fn by_counter(rt: HostRuntime) {
-    assert!(rt; answers(&ByCounter, 0) == [true; 6]);
-    assert!(rt; answers(&ByCounter, 1) == [false; 6]);
+    assert_eq!(rt; answers(&ByCounter, 0), [true; 6]);
+    assert_eq!(rt; answers(&ByCounter, 1), [false; 6]);
 }
