@@ -14,6 +14,7 @@ use stock::value::Stock;
 // As many saved values as there are work values.
 pub const MAX_WRITES: usize = 32;
 
+#[tactic(auto, using(crate::specs::Folding::count_is))]
 fn count_writes<V>(accesses: &[Access<V>]) -> usize
     ensures { result ≡ write_count (shapes accesses.now) }
 {

@@ -1,8 +1,7 @@
 -- The policy of the day program: Counts, remainder, by start, by record, and the redo log.
 use Rattle.std.specs.Prelude.{length, nat_le}
 use Rattle.stock.specs.declared.count.Count.{Count}
-use Rattle.stock.specs.Arithmetic.{arithmetic_of}
-use Rattle.stock.specs.Count.{count_draws, count_stows}
+use Rattle.stock.specs.Count.{count_arithmetic}
 use Rattle.policy.specs.Gates.{by_record}
 use Rattle.policy.specs.Maps.{by_remainder}
 use Rattle.policy.specs.Precedence.{by_start}
@@ -12,7 +11,7 @@ use Rattle.rules.specs.Policy.{Policy}
 abbrev pub day_policy : Policy Count
 day_policy =
     record {
-      arithmetic = arithmetic_of count_draws count_stows;
+      arithmetic = count_arithmetic;
       rules =
           record {
             orec_of = by_remainder;

@@ -2,11 +2,10 @@
 --   Rules    what is decided without values: the orec of a word, who precedes, what the gate lets through
 --            (told a mode, how many transactions are under way and whether the access writes), which transactions fit the path
 --   Policy   the rules, and the arithmetic of the stock values
---   policy_of   the policy made of how a stock value is drawn and stowed, and of what a map, a manager, a gate and a path decide
+--   policy_of   the policy made of the arithmetic of a stock value and of what a map, a manager, a gate and a path decide
 --   Laws     what the rules keep
-use Rattle.std.specs.Prelude.{◌≡◌, ℕ, ◌<◌, ◌≤◌, Bool, true, false, not, List, length, Result, ◌≢◌}
-use Rattle.stock.specs.declared.fault.StockFault.{StockFault}
-use Rattle.stock.specs.Arithmetic.{Arithmetic, arithmetic_of}
+use Rattle.std.specs.Prelude.{◌≡◌, ℕ, ◌<◌, ◌≤◌, Bool, true, false, not, List, length, ◌≢◌}
+use Rattle.stock.specs.Arithmetic.{Arithmetic}
 use Rattle.policy.specs.declared.orec.Mode.{Mode}
 use Rattle.policy.specs.declared.orec.Mode.TheVariants.{Free, Write}
 use Rattle.policy.specs.declared.priority.Priority.{Priority}
@@ -24,10 +23,9 @@ pub record Policy (V : Type 0) : Type 0 where
   pub rules : Rules
 
 abbrev pub policy_of :
-    {V : Type 0} → (V → V → Result V StockFault) → (V → V → Result V StockFault) → (ℕ → ℕ) → (Priority → Priority → Bool) →
-    (Mode → ℕ → Bool → Bool) → (List (ℕ × ℕ) → Bool) → Policy V
-policy_of draws stows maps ahead opens holds =
-    record { arithmetic = arithmetic_of draws stows; rules = record { orec_of = maps; precedes = ahead; gate = opens; fits = holds } }
+    {V : Type 0} → Arithmetic V → (ℕ → ℕ) → (Priority → Priority → Bool) → (Mode → ℕ → Bool → Bool) → (List (ℕ × ℕ) → Bool) → Policy V
+policy_of arithmetic maps ahead opens holds =
+    record { arithmetic = arithmetic; rules = record { orec_of = maps; precedes = ahead; gate = opens; fits = holds } }
 
 pub record Laws (R : Rules) : Type 0 where
   pub orec_below : (b : ℕ) → b < 4096 → R.orec_of b < 64

@@ -1,7 +1,7 @@
 // The theorem over runs for kinds that stand today, so that nobody need take it on trust that some kinds meet the laws.
 ghost use Rattle.std.specs.Prelude.{length, nat_le};
-ghost use Rattle.stock.specs.Count.{count_draws, count_stows};
-ghost use Rattle.stock.specs.Lot.{lot_draws, lot_stows};
+ghost use Rattle.stock.specs.Count.{count_arithmetic};
+ghost use Rattle.stock.specs.Lot.{lot_arithmetic};
 ghost use Rattle.policy.specs.Gates.{by_counter};
 ghost use Rattle.policy.specs.Maps.{by_quotient, by_scatter};
 ghost use Rattle.policy.specs.Precedence.{by_class, by_start, by_thread, reversed};
@@ -20,32 +20,32 @@ use stock::count::Count;
 use stock::lot::Lot;
 
 // The day program's kinds.
-pub fn day_runs() -> u8
+pub fn day_runs()
     ensures { EveryRun day_policy }
 {
     kinds_suffice::<Count, Remainder, ByStart, ByRecord, RedoLog>(
         &Remainder, &ByStart, &ByRecord, &RedoLog,
-    )
+    );
 }
 
-pub fn lot_runs() -> u8
-    ensures { EveryRun (policy_of lot_draws lot_stows by_scatter (by_class (reversed by_thread)) (λ mode n writing. by_counter n) (λ s. nat_le (write_count s) 32)) }
+pub fn lot_runs()
+    ensures { EveryRun (policy_of lot_arithmetic by_scatter (by_class (reversed by_thread)) (λ mode n writing. by_counter n) (λ s. nat_le (write_count s) 32)) }
 {
     kinds_suffice::<Lot, Scatter, ByClass<Reversed<ByThread>>, ByCounter, UndoLog>(
         &Scatter,
         &ByClass(Reversed(ByThread)),
         &ByCounter,
         &UndoLog,
-    )
+    );
 }
 
-pub fn quotient_runs() -> u8
-    ensures { EveryRun (policy_of count_draws count_stows by_quotient (reversed by_start) (λ mode n writing. by_counter n) (λ s. nat_le (length (written_words s)) 16)) }
+pub fn quotient_runs()
+    ensures { EveryRun (policy_of count_arithmetic by_quotient (reversed by_start) (λ mode n writing. by_counter n) (λ s. nat_le (length (written_words s)) 16)) }
 {
     kinds_suffice::<Count, Quotient, Reversed<ByStart>, ByCounter, RedoLog>(
         &Quotient,
         &Reversed(ByStart),
         &ByCounter,
         &RedoLog,
-    )
+    );
 }

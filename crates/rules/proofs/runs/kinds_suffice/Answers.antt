@@ -10,7 +10,7 @@ returns g c =
     let gate = c.args.gate.now in
     let path = c.args.path.now in
     every_run
-    (policy_of g.V.Stock.draws g.V.Stock.stows (g.M.OrecMap.maps map) (g.C.ContentionManager.ahead manager) (g.G.Gate.opens gate)
+    (policy_of g.V.Stock.arithmetic (g.M.OrecMap.maps map) (g.C.ContentionManager.ahead manager) (g.G.Gate.opens gate)
     (g.P.HardwarePath.holds path))
     (record {
       orec_below = g.met.M.OrecMap.below map;
