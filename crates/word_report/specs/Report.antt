@@ -3,7 +3,6 @@
 --   line_of         the line of a filled word, with its orec by remainder
 --   word_line       the line of a word, and nothing for an empty one
 --   lines_from      the lines of words, the first of which has number i
---   one_if_filled   1 for a count that is not 0
 --   filled_in       how many words are not 0
 --   total_in        the total of the counts
 --   closing_of      the closing line
@@ -12,7 +11,7 @@
 --   words_of        the lines and the closing line of words
 --   outcome_of      what is printed of a load: its words, or where it is malformed
 --   report_of       the whole text, by the bytes of the file
-use Rattle.std.specs.Prelude.{ℕ, ◌+◌, ◌/◌, cond, List, [], ◌∷◌, ◌++◌, length, Ok, Err, codes, decimal, Result, ◌==◌}
+use Rattle.std.specs.Prelude.{ℕ, ◌+◌, ◌/◌, cond, not, List, [], ◌∷◌, ◌++◌, length, Ok, Err, codes, decimal, Result, ◌==◌, count_by, sum_by}
 use Rattle.policy.specs.Maps.{by_remainder}
 use Rattle.stock.specs.declared.count.Count.{Count}
 use Rattle.decline.specs.declared.Decline.{Decline}
@@ -34,16 +33,11 @@ abbrev pub lines_from : ℕ → List Count → List ℕ
 lines_from i [] = []
 lines_from i (c ∷ cs) = word_line i c.value ++ lines_from (i + 1) cs
 
-abbrev pub one_if_filled : ℕ → ℕ
-one_if_filled n = cond (n == 0) 0 1
-
 abbrev pub filled_in : List Count → ℕ
-filled_in [] = 0
-filled_in (c ∷ cs) = one_if_filled c.value + filled_in cs
+filled_in cs = count_by (λ (c : Count). not (c.value == 0)) cs
 
 abbrev pub total_in : List Count → ℕ
-total_in [] = 0
-total_in (c ∷ cs) = c.value + total_in cs
+total_in cs = sum_by (λ (c : Count). c.value) cs
 
 abbrev pub closing_of : ℕ → ℕ → ℕ → List ℕ
 closing_of n some all = decimal n ++ (codes " words, " ++ (decimal some ++ (codes " filled, " ++ (decimal all ++ codes " in all\n"))))

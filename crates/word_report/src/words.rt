@@ -1,0 +1,55 @@
+// The words of a file of Counts.
+ghost use Rattle.std.specs.Prelude.{◌≡◌, ◌≤◌, length, Some};
+ghost use Rattle.word_report.specs.Report.{filled_in, total_in, words_of};
+
+use crate::text::{ClosingLine, WordLine};
+use std::fmt;
+use stock::count::Count;
+
+// A file has at most 4,096 words, so their total fits a u64.
+#[derive(Clone, Copy)]
+pub struct Words<'a> {
+    pub counts: &'a [Count],
+    ghost few: { length counts.now ≤ 4096 },
+}
+
+impl Words<'_> {
+    fn filled(&self) -> usize
+        ensures { result ≡ filled_in self.now.counts.now }
+    {
+        self.counts
+            .iter()
+            .filter(|count| count.value() != 0)
+            .count()
+    }
+
+    fn total(&self) -> u64
+        ensures { result ≡ total_in self.now.counts.now }
+    {
+        self.counts
+            .iter()
+            .map(|count| u64::from(count.value()))
+            .sum()
+    }
+}
+
+impl fmt::Display for Words<'_> {
+    ghost output = { λ words. Some (words_of words.counts.now) };
+
+    fn fmt<W: fmt::Write>(&self, f: &mut fmt::Formatter<W>) -> fmt::Result {
+        for (word, count) in self.counts.iter().enumerate() {
+            let count = count.value();
+            if count == 0 {
+                continue;
+            }
+            let word = word as u32;
+            write!(f, "{}", WordLine { word, count })?;
+        }
+        let closing = ClosingLine {
+            words: self.counts.len(),
+            filled: self.filled(),
+            total: self.total(),
+        };
+        write!(f, "{closing}")
+    }
+}
