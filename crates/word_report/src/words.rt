@@ -1,16 +1,17 @@
 // The words of a file of Counts.
 ghost use Rattle.std.specs.Prelude.{◌≡◌, ◌≤◌, length, Some};
+ghost use Rattle.meaning.specs.declared.check.TheConstants.{MAX_WORDS};
 ghost use Rattle.word_report.specs.Report.{filled_in, total_in, words_of};
 
 use crate::text::{ClosingLine, WordLine};
 use std::fmt;
 use stock::count::Count;
 
-// A file has at most 4,096 words, so their total fits a u64.
+// No more words than a file may have, so a u32 numbers them and a u64 holds their total.
 #[derive(Clone, Copy)]
 pub struct Words<'a> {
     pub counts: &'a [Count],
-    ghost few: { length counts.now ≤ 4096 },
+    ghost within: { length counts.now ≤ MAX_WORDS },
 }
 
 impl Words<'_> {
@@ -38,12 +39,13 @@ impl fmt::Display for Words<'_> {
 
     fn fmt<W: fmt::Write>(&self, f: &mut fmt::Formatter<W>) -> fmt::Result {
         for (word, count) in self.counts.iter().enumerate() {
-            let count = count.value();
-            if count == 0 {
-                continue;
+            let line = WordLine {
+                word: word as u32,
+                count: count.value(),
+            };
+            if line.count != 0 {
+                write!(f, "{line}")?;
             }
-            let word = word as u32;
-            write!(f, "{}", WordLine { word, count })?;
         }
         let closing = ClosingLine {
             words: self.counts.len(),
