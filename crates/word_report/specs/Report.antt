@@ -2,6 +2,7 @@
 --   line_of        the line of a filled word: its number, its orec by remainder and its count
 --   word_line      the line of a word, and nothing for an empty one
 --   lines_from     the lines of words, the first of which has number i
+--   is_filled      whether a count is not 0
 --   filled_in      how many words are not 0
 --   total_in       the total of the counts
 --   closing_of     the closing line
@@ -9,7 +10,7 @@
 --   words_of       the lines and the closing line of words
 --   outcome_of     what is printed of a load: its words, or where it is malformed
 --   report_of      the whole text, by the bytes of the file
-use Rattle.std.specs.Prelude.{ℕ, ◌+◌, ◌/◌, cond, not, List, [], ◌∷◌, ◌++◌, length, Ok, Err, codes, decimal, Result, ◌==◌, count_by, sum_by}
+use Rattle.std.specs.Prelude.{ℕ, ◌+◌, ◌/◌, Bool, cond, not, List, [], ◌∷◌, ◌++◌, length, Ok, Err, codes, decimal, Result, ◌==◌, count_by, sum_by}
 use Rattle.policy.specs.Maps.{by_remainder}
 use Rattle.stock.specs.declared.count.Count.{Count}
 use Rattle.decline.specs.declared.Decline.{Decline}
@@ -28,8 +29,11 @@ abbrev pub lines_from : ℕ → List Count → List ℕ
 lines_from i [] = []
 lines_from i (c ∷ cs) = word_line i c.value ++ lines_from (i + 1) cs
 
+abbrev pub is_filled : Count → Bool
+is_filled c = not (c.value == 0)
+
 abbrev pub filled_in : List Count → ℕ
-filled_in cs = count_by (λ (c : Count). not (c.value == 0)) cs
+filled_in cs = count_by is_filled cs
 
 abbrev pub total_in : List Count → ℕ
 total_in cs = sum_by (λ (c : Count). c.value) cs

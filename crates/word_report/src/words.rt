@@ -1,7 +1,7 @@
 // The words of a file of Counts.
 ghost use Rattle.std.specs.Prelude.{◌≡◌, ◌≤◌, length, Some};
 ghost use Rattle.meaning.specs.declared.check.TheConstants.{MAX_WORDS};
-ghost use Rattle.word_report.specs.Report.{filled_in, total_in, words_of};
+ghost use Rattle.word_report.specs.Report.{is_filled, filled_in, total_in, words_of};
 
 use crate::text::{ClosingLine, WordLine};
 use std::fmt;
@@ -14,14 +14,17 @@ pub struct Words<'a> {
     ghost within: { length counts.now ≤ MAX_WORDS },
 }
 
+fn is_filled(count: &Count) -> bool
+    ensures { result ≡ is_filled count.now }
+{
+    count.value() != 0
+}
+
 impl Words<'_> {
     fn filled(&self) -> usize
         ensures { result ≡ filled_in self.now.counts.now }
     {
-        self.counts
-            .iter()
-            .filter(|count| count.value() != 0)
-            .count()
+        self.counts.iter().filter(|count| is_filled(count)).count()
     }
 
     fn total(&self) -> u64
@@ -39,11 +42,11 @@ impl fmt::Display for Words<'_> {
 
     fn fmt<W: fmt::Write>(&self, f: &mut fmt::Formatter<W>) -> fmt::Result {
         for (word, count) in self.counts.iter().enumerate() {
-            let line = WordLine {
-                word: word as u32,
-                count: count.value(),
-            };
-            if line.count != 0 {
+            if is_filled(count) {
+                let line = WordLine {
+                    word: word as u32,
+                    count: count.value(),
+                };
                 write!(f, "{line}")?;
             }
         }
