@@ -9,5 +9,5 @@ fn main(rt: HostRuntime) -> io::Result<()> {
     let heap = rt.alloc();
     let mut bytes = Vec::new(heap);
     rt.stdin().read_to_end(&mut bytes)?;
-    rt.print(report(heap, bytes.as_slice())?)
+    rt.print(report(heap, &bytes)?)
 }

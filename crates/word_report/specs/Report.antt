@@ -1,18 +1,16 @@
 -- What is printed of a file of Counts.
---   numbers_line    the line of a word number, an orec and a count
---   line_of         the line of a filled word, with its orec by remainder
---   word_line       the line of a word, and nothing for an empty one
---   lines_from      the lines of words, the first of which has number i
---   one_if_filled   1 for a count that is not 0
---   filled_in       how many words are not 0
---   total_in        the total of the counts
---   closing_of      the closing line
---   decline_line    the one line of a declined file, by number, name and place
---   declined_of     the line of a decline
---   words_of        the lines and the closing line of words
---   outcome_of      what is printed of a load: its words, or where it is malformed
---   report_of       the whole text, by the bytes of the file
-use Rattle.std.specs.Prelude.{ℕ, ◌+◌, ◌/◌, cond, List, [], ◌∷◌, ◌++◌, length, Ok, Err, codes, decimal, Result, ◌==◌}
+--   line_of        the line of a filled word: its number, its orec by remainder and its count
+--   word_line      the line of a word, and nothing for an empty one
+--   lines_from     the lines of words, the first of which has number i
+--   is_filled      whether a count is not 0
+--   filled_in      how many words are not 0
+--   total_in       the total of the counts
+--   closing_of     the closing line
+--   declined_of    the one line of a declined file: the decline by number, name and place
+--   words_of       the lines and the closing line of words
+--   outcome_of     what is printed of a load: its words, or where it is malformed
+--   report_of      the whole text, by the bytes of the file
+use Rattle.std.specs.Prelude.{ℕ, ◌+◌, ◌/◌, Bool, cond, not, List, [], ◌∷◌, ◌++◌, length, Ok, Err, codes, decimal, Result, ◌==◌, count_by, sum_by}
 use Rattle.policy.specs.Maps.{by_remainder}
 use Rattle.stock.specs.declared.count.Count.{Count}
 use Rattle.decline.specs.declared.Decline.{Decline}
@@ -21,11 +19,8 @@ use Rattle.stock.specs.Count.{count}
 use Rattle.decline.specs.Decline.{number_of, name_of, place_of}
 use Rattle.storage.specs.File.{loaded, wrong_length}
 
-abbrev pub numbers_line : ℕ → ℕ → ℕ → List ℕ
-numbers_line word orec n = decimal word ++ (codes " " ++ (decimal orec ++ (codes " " ++ (decimal n ++ codes "\n"))))
-
 abbrev pub line_of : ℕ → ℕ → List ℕ
-line_of word n = numbers_line word (by_remainder word) n
+line_of word n = decimal word ++ (codes " " ++ (decimal (by_remainder word) ++ (codes " " ++ (decimal n ++ codes "\n"))))
 
 abbrev pub word_line : ℕ → ℕ → List ℕ
 word_line word n = cond (n == 0) [] (line_of word n)
@@ -34,25 +29,21 @@ abbrev pub lines_from : ℕ → List Count → List ℕ
 lines_from i [] = []
 lines_from i (c ∷ cs) = word_line i c.value ++ lines_from (i + 1) cs
 
-abbrev pub one_if_filled : ℕ → ℕ
-one_if_filled n = cond (n == 0) 0 1
+abbrev pub is_filled : Count → Bool
+is_filled c = not (c.value == 0)
 
 abbrev pub filled_in : List Count → ℕ
-filled_in [] = 0
-filled_in (c ∷ cs) = one_if_filled c.value + filled_in cs
+filled_in cs = count_by is_filled cs
 
 abbrev pub total_in : List Count → ℕ
-total_in [] = 0
-total_in (c ∷ cs) = c.value + total_in cs
+total_in cs = sum_by (λ (c : Count). c.value) cs
 
 abbrev pub closing_of : ℕ → ℕ → ℕ → List ℕ
 closing_of n some all = decimal n ++ (codes " words, " ++ (decimal some ++ (codes " filled, " ++ (decimal all ++ codes " in all\n"))))
 
-abbrev pub decline_line : ℕ → List ℕ → ℕ → List ℕ
-decline_line n name place = codes "declined: " ++ (decimal n ++ (codes " " ++ (name ++ (codes " at " ++ (decimal place ++ codes "\n")))))
-
 abbrev pub declined_of : Decline → List ℕ
-declined_of d = decline_line (number_of d) (name_of d) (place_of d)
+declined_of d =
+    codes "declined: " ++ (decimal (number_of d) ++ (codes " " ++ (name_of d ++ (codes " at " ++ (decimal (place_of d) ++ codes "\n")))))
 
 abbrev pub words_of : List Count → List ℕ
 words_of cs = lines_from 0 cs ++ closing_of (length cs) (filled_in cs) (total_in cs)

@@ -2,5 +2,5 @@
 #![tactic(auto)]
 
 pub mod report;
-mod tally;
 pub mod text;
+mod words;

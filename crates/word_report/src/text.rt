@@ -1,37 +1,63 @@
 // The lines of a report.
-ghost use Rattle.std.specs.Prelude.{◌≡◌, IfOk, string_bytes};
-ghost use Rattle.word_report.specs.Report.{numbers_line, line_of, closing_of, decline_line, declined_of};
+ghost use Rattle.std.specs.Prelude.{Some};
+ghost use Rattle.word_report.specs.Report.{line_of, closing_of, declined_of};
 
 use decline::Decline;
 use policy::map::{OrecMap, Remainder};
-use std::alloc::{AllocError, Global};
+use std::fmt;
 
-fn numbers(heap: Global, word: u32, orec: usize, count: u32) -> Result<String, AllocError>
-    ensures { IfOk result (λ s. string_bytes s ≡ numbers_line word orec count) }
-{
-    format!(in heap; "{word} {orec} {count}\n")
+// The line of a word that is not 0.
+#[derive(Clone, Copy)]
+pub struct WordLine {
+    pub word: u32,
+    pub count: u32,
 }
 
-pub fn line(heap: Global, word: u32, count: u32) -> Result<String, AllocError>
-    ensures { IfOk result (λ s. string_bytes s ≡ line_of word count) }
-{
-    numbers(heap, word, Remainder.orec_of(word), count)
+impl fmt::Display for WordLine {
+    ghost output = { λ line. Some (line_of line.word line.count) };
+
+    fn fmt<W: fmt::Write>(&self, f: &mut fmt::Formatter<W>) -> fmt::Result {
+        let orec = Remainder.orec_of(self.word);
+        writeln!(f, "{} {orec} {}", self.word, self.count)
+    }
 }
 
-pub fn closing(heap: Global, words: usize, filled: usize, total: u64) -> Result<String, AllocError>
-    ensures { IfOk result (λ s. string_bytes s ≡ closing_of words filled total) }
-{
-    format!(in heap; "{words} words, {filled} filled, {total} in all\n")
+// The line after those of the words.
+#[derive(Clone, Copy)]
+pub struct ClosingLine {
+    pub words: usize,
+    pub filled: usize,
+    pub total: u64,
 }
 
-fn reason(heap: Global, number: u8, name: &str, place: usize) -> Result<String, AllocError>
-    ensures { IfOk result (λ s. string_bytes s ≡ decline_line number name.now place) }
-{
-    format!(in heap; "declined: {number} {name} at {place}\n")
+impl fmt::Display for ClosingLine {
+    ghost output = { λ line. Some (closing_of line.words line.filled line.total) };
+
+    fn fmt<W: fmt::Write>(&self, f: &mut fmt::Formatter<W>) -> fmt::Result {
+        let ClosingLine {
+            words,
+            filled,
+            total,
+        } = *self;
+        writeln!(f, "{words} words, {filled} filled, {total} in all")
+    }
 }
 
-pub fn declined(heap: Global, decline: Decline) -> Result<String, AllocError>
-    ensures { IfOk result (λ s. string_bytes s ≡ declined_of decline) }
-{
-    reason(heap, decline.number(), decline.name(), decline.place())
+// The one line of a declined file.
+#[derive(Clone, Copy)]
+pub struct DeclinedLine(pub Decline);
+
+impl fmt::Display for DeclinedLine {
+    ghost output = { λ line. Some (declined_of line.0) };
+
+    fn fmt<W: fmt::Write>(&self, f: &mut fmt::Formatter<W>) -> fmt::Result {
+        let decline = self.0;
+        writeln!(
+            f,
+            "declined: {} {} at {}",
+            decline.number(),
+            decline.name(),
+            decline.place()
+        )
+    }
 }
