@@ -51,13 +51,8 @@ impl fmt::Display for DeclinedLine {
     ghost output = { λ line. Some (declined_of line.0) };
 
     fn fmt<W: fmt::Write>(&self, f: &mut fmt::Formatter<W>) -> fmt::Result {
-        let decline = self.0;
-        writeln!(
-            f,
-            "declined: {} {} at {}",
-            decline.number(),
-            decline.name(),
-            decline.place()
-        )
+        let DeclinedLine(decline) = *self;
+        let place = decline.place();
+        writeln!(f, "declined: {} {decline} at {place}", decline.number())
     }
 }
