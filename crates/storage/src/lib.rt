@@ -39,6 +39,7 @@ fn read_words<V: Stock + Copy>(codes: &[[u8; 8]], words: &mut [V])
     requires sound { position (is_bad V.decodes) codes.now ≡ None }
     ensures { words.new ≡ filter_map (value_of V.decodes) codes.now }
 {
+    // By index: nothing is known of the words after a `zip` over `iter_mut`.
     for (i, word) in words.iter_mut().enumerate() {
         *word = read_value(&codes[i]).unwrap();
     }
@@ -48,7 +49,7 @@ fn write_words<V: Stock + Copy>(words: &[V], file: &mut [u8])
     requires { length file.old ≡ 8 * length words.now }
     ensures { file.new ≡ file_of V.codes words.now }
 {
-    // By range: nothing is known of a slice's bytes after `as_chunks_mut`.
+    // By range: nothing is known of the bytes after `as_chunks_mut`.
     for (i, word) in words.iter().enumerate() {
         file[8 * i..8 * i + 8].copy_from_slice(&word.code().to_le_bytes());
     }
