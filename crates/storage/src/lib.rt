@@ -1,9 +1,9 @@
 // Words on file: each word's code in 8 bytes, low byte first, and nothing else.
 #![tactic(auto)]
 
-ghost use Rattle.std.specs.Prelude.{◌≡◌, ◌+◌, ◌*◌, ◌≤◌, ◌++◌, length, take, drop, Ok};
-ghost use Rattle.std.specs.Option.{unwrap_or};
-ghost use Rattle.storage.specs.File.{bytes_of, code_of, file_of, loaded, measured, bad_place, checked, stored_file, loaded_result, words_or, loaded_words};
+ghost use Rattle.std.specs.Prelude.{◌≡◌, ◌+◌, ◌*◌, ◌≤◌, length, Ok, None, position};
+ghost use Rattle.std.specs.List.{filter_map};
+ghost use Rattle.storage.specs.File.{value_of, is_bad, file_of, loaded, measured, stored_file, loaded_result, loaded_words};
 
 use decline::Decline;
 use meaning::check::is_bad_count;
@@ -18,85 +18,40 @@ fn check_lengths(words: usize, bytes: usize) -> Result<(), Decline>
     Ok(())
 }
 
-fn bytes_of(code: u64) -> [u8; 8]
-    ensures { result ≡ bytes_of code }
+// The value that eight bytes stand for, if any.
+fn read_value<V: Stock>(bytes: &[u8; 8]) -> Option<V>
+    ensures { result ≡ value_of V.decodes bytes.now }
 {
-    code.to_le_bytes()
+    V::decode(u64::from_le_bytes(*bytes))
 }
 
-fn code_of(bytes: &[u8]) -> u64
-    requires { length bytes.now ≡ 8 }
-    ensures { result ≡ code_of bytes.now }
+// The place of the first code that stands for no value.
+fn first_bad<V: Stock + Copy>(codes: &[[u8; 8]]) -> Option<usize>
+    ensures { result ≡ position (is_bad V.decodes) codes.now }
 {
-    u64::from_le_bytes([
-        bytes[0], bytes[1], bytes[2], bytes[3], bytes[4], bytes[5], bytes[6], bytes[7],
-    ])
+    codes
+        .iter()
+        .position(|bytes| read_value::<V>(bytes).is_none())
 }
 
-fn read_code(file: &[u8], word: usize) -> u64
-    requires { 8 * word + 8 ≤ length file.now }
-    ensures { result ≡ code_of (take 8 (drop (8 * word) file.now)) }
+fn read_words<V: Stock + Copy>(codes: &[[u8; 8]], words: &mut [V])
+    requires long { length codes.now ≡ length words.old }
+    requires sound { position (is_bad V.decodes) codes.now ≡ None }
+    ensures { words.new ≡ filter_map (value_of V.decodes) codes.now }
 {
-    code_of(&file[8 * word..8 * word + 8])
+    // By index: nothing is known of the words after a `zip` over `iter_mut`.
+    for (i, word) in words.iter_mut().enumerate() {
+        *word = read_value(&codes[i]).unwrap();
+    }
 }
 
-fn write_code(file: &mut [u8], word: usize, code: u64)
-    requires { 8 * word + 8 ≤ length file.old }
-    ensures { file.new ≡ take (8 * word) file.old ++ (bytes_of code ++ drop (8 * word + 8) file.old) }
-{
-    file[8 * word..8 * word + 8].copy_from_slice(&bytes_of(code));
-}
-
-fn write_codes<V: Stock + Copy>(words: &[V], file: &mut [u8])
+fn write_words<V: Stock + Copy>(words: &[V], file: &mut [u8])
     requires { length file.old ≡ 8 * length words.now }
-    ensures file { file.new ≡ file_of V.codes words.now }
-    ensures back { loaded V.decodes file.new ≡ Ok words.now }
+    ensures { file.new ≡ file_of V.codes words.now }
 {
-    for i in 0..words.len() {
-        write_code(file, i, words[i].code());
-    }
-}
-
-// The place of the first code that does not decode.
-fn first_bad<V: Stock + Copy>(file: &[u8], words: usize) -> Option<usize>
-    requires { length file.now ≡ 8 * words }
-    ensures { result ≡ bad_place (loaded V.decodes file.now) }
-{
-    for i in 0..words {
-        if V::decode(read_code(file, i)).is_none() {
-            return Some(i);
-        }
-    }
-    None
-}
-
-fn check_codes<V: Stock + Copy>(file: &[u8], words: usize) -> Result<(), Decline>
-    requires { length file.now ≡ 8 * words }
-    ensures { result ≡ checked (loaded V.decodes file.now) }
-{
-    match first_bad::<V>(file, words) {
-        Some(place) => Err(Decline::Malformed(place)),
-        None => Ok(()),
-    }
-}
-
-fn read_word<V: Stock + Copy>(code: u64, word: V) -> V
-    ensures { result ≡ unwrap_or (V.decodes code) word }
-{
-    match V::decode(code) {
-        Some(value) => value,
-        None => word,
-    }
-}
-
-fn read_words<V: Stock + Copy>(file: &[u8], words: &mut [V])
-    requires long { length file.now ≡ 8 * length words.old }
-    requires sound { checked (loaded V.decodes file.now) ≡ Ok tt }
-    ensures words { words.new ≡ words_or (loaded V.decodes file.now) words.old }
-    ensures form { file_of V.codes words.new ≡ file.now }
-{
-    for i in 0..words.len() {
-        words[i] = read_word(read_code(file, i), words[i]);
+    // By range: nothing is known of the bytes after `as_chunks_mut`.
+    for (i, word) in words.iter().enumerate() {
+        file[8 * i..8 * i + 8].copy_from_slice(&word.code().to_le_bytes());
     }
 }
 
@@ -106,7 +61,7 @@ pub fn store<V: Stock + Copy>(words: &[V], file: &mut [u8]) -> Result<(), Declin
     ensures back { result ≡ Ok tt → loaded V.decodes file.new ≡ Ok words.now }
 {
     check_lengths(words.len(), file.len())?;
-    write_codes(words, file);
+    write_words(words, file);
     Ok(())
 }
 
@@ -116,9 +71,11 @@ pub fn load<V: Stock + Copy>(file: &[u8], words: &mut [V]) -> Result<(), Decline
     ensures words { words.new ≡ loaded_words V.decodes file.now words.old }
     ensures form { result ≡ Ok tt → file_of V.codes words.new ≡ file.now }
 {
-    let count = words.len();
-    check_lengths(count, file.len())?;
-    check_codes::<V>(file, count)?;
-    read_words(file, words);
+    check_lengths(words.len(), file.len())?;
+    let (codes, _) = file.as_chunks::<8>();
+    if let Some(place) = first_bad::<V>(codes) {
+        return Err(Decline::Malformed(place));
+    }
+    read_words(codes, words);
     Ok(())
 }

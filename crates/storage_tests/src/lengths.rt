@@ -13,7 +13,7 @@ fn no_words(rt: HostRuntime) {
 
 #[test]
 fn bytes_for_each_word(rt: HostRuntime) -> Result<(), Fail> {
-    let seven = Count::new(7).ok_or(0u8)?;
+    let seven = Count::new(7).ok_or("no such count")?;
     let mut words = [seven; 2];
     let mut file = [1u8; 17];
     assert!(rt; store(&words, &mut file) == Err(Decline::WrongLength));
@@ -32,7 +32,7 @@ fn bytes_for_each_word(rt: HostRuntime) -> Result<(), Fail> {
 #[test]
 fn most_words(rt: HostRuntime) -> Result<(), Fail> {
     let heap = rt.alloc();
-    let seven = Count::new(7).ok_or(0u8)?;
+    let seven = Count::new(7).ok_or("no such count")?;
     let words = vec![in heap; seven; 4097]?;
     let mut file = vec![in heap; 0u8; 32776]?;
     assert!(rt; words.len() == 4097);

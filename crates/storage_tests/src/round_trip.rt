@@ -4,8 +4,8 @@ use storage::{load, store};
 
 #[test]
 fn lots(rt: HostRuntime) -> Result<(), Fail> {
-    let largest = Lot::new(999_999, 999_999).ok_or(0u8)?;
-    let small = Lot::new(7, 3).ok_or(0u8)?;
+    let largest = Lot::new(999_999, 999_999).ok_or("no such lot")?;
+    let small = Lot::new(7, 3).ok_or("no such lot")?;
     let words = [largest, Lot::empty(), small];
     let mut file = [9u8; 24];
     assert!(rt; store(&words, &mut file) == Ok(()));
@@ -13,8 +13,6 @@ fn lots(rt: HostRuntime) -> Result<(), Fail> {
     assert!(rt; file[20] == 3);
     let mut back = [small; 3];
     assert!(rt; load(&file, &mut back) == Ok(()));
-    assert!(rt; back[0] == largest);
-    assert!(rt; back[1] == Lot::empty());
-    assert!(rt; back[2] == small);
+    assert!(rt; back == words);
     Ok(())
 }

@@ -1,7 +1,0 @@
-use Rattle.std.proofs.Common.{◌≡◌, ◌*◌, ◌++◌, take, drop}
-use Rattle.storage.specs.File.{file_of}
-use Rattle.storage.proofs.write_codes.Given as goal
-
-abbrev pub invariant-loop-i : goal.invariant-loop-i
-invariant-loop-i g l =
-    take (8 * l.i) l.file ++ file_of g.V.Stock.codes (drop l.i l.words) ≡ file_of g.V.Stock.codes l.words
