@@ -1,6 +1,4 @@
 // Runs one transaction on equal words by both paths and by its meaning.
-ghost use Rattle.std.specs.Prelude.{◌≡◌, length};
-
 use decline::Decline;
 use hardware::path::HardwarePath;
 use hardware::redo::RedoLog;
@@ -29,31 +27,29 @@ pub fn run_checked<P: HardwarePath, V: Stock + Copy>(
     path.run(words, accesses, answers, work)
 }
 
-pub fn same(one: &[Count], other: &[Count]) -> bool {
-    if one.len() != other.len() {
-        return false;
-    }
-    for i in 0..one.len() {
-        if one[i] != other[i] {
-            return false;
-        }
-    }
-    true
-}
-
 // One run: its words and answers afterwards, and how it ended.
-#[derive(Clone, Copy)]
+#[derive(Clone, Copy, PartialEq, Eq)]
 pub struct Run {
     pub words: [Count; 20],
     pub answers: [Count; 64],
     pub outcome: Result<(), Decline>,
 }
 
-impl Run {
-    pub fn equals(&self, other: &Run) -> bool {
-        self.outcome == other.outcome
-            && same(&self.words, &other.words)
-            && same(&self.answers, &other.answers)
+// The run from these words of what is given, on answers that are all zero.
+fn run_of<F: FnOnce(&mut [Count], &mut [Count]) -> Result<(), Decline> + Drop>(
+    zero: Count,
+    first: [Count; 20],
+    run: F,
+) -> Run
+    requires { F.IsAlwaysCallable run }
+{
+    let mut words = first;
+    let mut answers = [zero; 64];
+    let outcome = run(&mut words, &mut answers);
+    Run {
+        words,
+        answers,
+        outcome,
     }
 }
 
@@ -63,32 +59,20 @@ pub fn by_path<P: HardwarePath>(
     first: [Count; 20],
     accesses: &[Access<Count>],
 ) -> Run {
-    let mut words = first;
-    let mut answers = [zero; 64];
-    let mut work = [zero; 32];
-    let outcome = run_checked(path, &mut words, accesses, &mut answers, &mut work);
-    Run {
-        words,
-        answers,
-        outcome,
-    }
+    run_of(zero, first, |words, answers| {
+        run_checked(path, words, accesses, answers, &mut [zero; 32])
+    })
 }
 
 pub fn by_meaning(zero: Count, first: [Count; 20], accesses: &[Access<Count>]) -> Run {
-    let mut words = first;
-    let mut answers = [zero; 64];
-    let mut saved = [zero; 64];
-    let outcome = perform(&mut words, accesses, &mut answers, &mut saved);
-    Run {
-        words,
-        answers,
-        outcome,
-    }
+    run_of(zero, first, |words, answers| {
+        perform(words, accesses, answers, &mut [zero; 64])
+    })
 }
 
 // Both paths do what the meaning does.
 pub fn agree(zero: Count, first: [Count; 20], accesses: &[Access<Count>]) -> bool {
     let meant = by_meaning(zero, first, accesses);
-    meant.equals(&by_path(&RedoLog, zero, first, accesses))
-        && meant.equals(&by_path(&UndoLog, zero, first, accesses))
+    meant == by_path(&RedoLog, zero, first, accesses)
+        && meant == by_path(&UndoLog, zero, first, accesses)
 }

@@ -1,4 +1,4 @@
-use crate::bench::{agree, by_path, same};
+use crate::bench::{agree, by_path};
 use decline::Decline;
 use hardware::path::HardwarePath;
 use hardware::redo::RedoLog;
@@ -11,26 +11,20 @@ use stock::kind::AccessKind;
 // Accesses of one kind to words 0, 1, .. up to the last, over and over.
 fn round(kind: AccessKind, value: Count, last: u32) -> [Access<Count>; 64] {
     let mut accesses = [Access {
-        kind: kind.number(),
+        kind: u8::from(kind),
         word: 0,
         value,
     }; 64];
-    let mut word = 0;
-    for i in 0..64 {
-        accesses[i] = Access {
-            kind: kind.number(),
-            word,
-            value,
-        };
-        word = if word < last { word + 1 } else { 0 };
+    for (access, word) in accesses.iter_mut().zip((0..=last).cycle()) {
+        access.word = word;
     }
     accesses
 }
 
 #[test]
 fn different_words(rt: HostRuntime) -> Result<(), Fail> {
-    let zero = Count::new(0).ok_or(0u8)?;
-    let one = Count::new(1).ok_or(0u8)?;
+    let zero = Count::new(0).ok_or("no count")?;
+    let one = Count::new(1).ok_or("no count")?;
     let wide = round(AccessKind::Stow, one, 16);
     assert!(rt; RedoLog.fits(&wide[0..16]));
     assert!(rt; !RedoLog.fits(&wide[0..17]));
@@ -43,8 +37,8 @@ fn different_words(rt: HostRuntime) -> Result<(), Fail> {
 
 #[test]
 fn writing_accesses(rt: HostRuntime) -> Result<(), Fail> {
-    let zero = Count::new(0).ok_or(0u8)?;
-    let one = Count::new(1).ok_or(0u8)?;
+    let zero = Count::new(0).ok_or("no count")?;
+    let one = Count::new(1).ok_or("no count")?;
     let stows = round(AccessKind::Stow, one, 3);
     assert!(rt; UndoLog.fits(&stows[0..32]));
     assert!(rt; !UndoLog.fits(&stows[0..33]));
@@ -55,23 +49,23 @@ fn writing_accesses(rt: HostRuntime) -> Result<(), Fail> {
 
 #[test]
 fn gives_up_with_all_as_before(rt: HostRuntime) -> Result<(), Fail> {
-    let zero = Count::new(0).ok_or(0u8)?;
-    let one = Count::new(1).ok_or(0u8)?;
+    let zero = Count::new(0).ok_or("no count")?;
+    let one = Count::new(1).ok_or("no count")?;
     let wide = round(AccessKind::Stow, one, 16);
     let redo = by_path(&RedoLog, zero, [one; 20], &wide[0..17]);
     assert!(rt; redo.outcome == Err(Decline::Unfit));
-    assert!(rt; same(&redo.words, &[one; 20]));
-    assert!(rt; same(&redo.answers, &[zero; 64]));
+    assert!(rt; redo.words == [one; 20]);
+    assert!(rt; redo.answers == [zero; 64]);
     let undo = by_path(&UndoLog, zero, [one; 20], &wide[0..33]);
     assert!(rt; undo.outcome == Err(Decline::Unfit));
-    assert!(rt; same(&undo.words, &[one; 20]));
+    assert!(rt; undo.words == [one; 20]);
     Ok(())
 }
 
 #[test]
 fn few_and_many(rt: HostRuntime) -> Result<(), Fail> {
-    let zero = Count::new(0).ok_or(0u8)?;
-    let one = Count::new(1).ok_or(0u8)?;
+    let zero = Count::new(0).ok_or("no count")?;
+    let one = Count::new(1).ok_or("no count")?;
     let looks = round(AccessKind::Look, one, 19);
     assert!(rt; agree(zero, [one; 20], &looks[0..0]));
     assert!(rt; agree(zero, [one; 20], &looks[0..1]));

@@ -7,23 +7,24 @@ use std::process::Abort;
 use std::test::Fail;
 use stock::access::Access;
 use stock::fault::{AccessFault, StockFault};
+use stock::kind::AccessKind;
 use stock::lot::Lot;
 
 // A lot goes in, is looked at, and the wrong batch is drawn: the words are as before, the look stands.
 fn other_batch<P: HardwarePath>(rt: &impl Abort, path: &P, four: Lot, five: Lot) {
     let accesses = [
         Access {
-            kind: 3,
+            kind: u8::from(AccessKind::Stow),
             word: 1,
             value: four,
         },
         Access {
-            kind: 0,
+            kind: u8::from(AccessKind::Look),
             word: 1,
             value: five,
         },
         Access {
-            kind: 2,
+            kind: u8::from(AccessKind::Draw),
             word: 1,
             value: five,
         },
@@ -43,8 +44,8 @@ fn other_batch<P: HardwarePath>(rt: &impl Abort, path: &P, four: Lot, five: Lot)
 
 #[test]
 fn other_batches(rt: HostRuntime) -> Result<(), Fail> {
-    let four = Lot::new(4, 9).ok_or(0u8)?;
-    let five = Lot::new(5, 1).ok_or(0u8)?;
+    let four = Lot::new(4, 9).ok_or("no lot")?;
+    let five = Lot::new(5, 1).ok_or("no lot")?;
     other_batch(&rt, &RedoLog, four, five);
     other_batch(&rt, &UndoLog, four, five);
     Ok(())

@@ -1,16 +1,13 @@
-use stock::kind::AccessKind;
+use stock::kind::{AccessKind, UnknownKind};
 
 #[test]
 fn numbers(rt: HostRuntime) {
     for number in 0..4u8 {
-        match AccessKind::from_number(number) {
-            Some(kind) => {
-                assert!(rt; kind.number() == number);
-                assert!(rt; kind.is_writing() == (number > 0));
-            }
-            None => assert!(rt; false),
-        }
+        let kind = AccessKind::try_from(number);
+        assert!(rt; kind.map(u8::from) == Ok(number));
+        assert!(rt; kind.map(AccessKind::is_writing) == Ok(number > 0));
     }
-    assert!(rt; AccessKind::from_number(4).is_none());
-    assert!(rt; AccessKind::from_number(255).is_none());
+    for number in [4, 255] {
+        assert!(rt; AccessKind::try_from(number) == Err(UnknownKind(number)));
+    }
 }

@@ -7,3 +7,5 @@ mod counts;
 mod kinds;
 #[cfg(test)]
 mod lots;
+#[cfg(test)]
+mod refusal;
