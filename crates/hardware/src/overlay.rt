@@ -1,4 +1,4 @@
-// A transaction on the words as they would be: its writes are set aside in a log of places and, beside them, work values.
+// A transaction on the words as they would be: its writes are set aside in a log.
 ghost use Rattle.std.specs.Prelude.{◌≡◌, ◌<◌, ◌≤◌, true, false, List, length, OnOk, Some, slice_set, ◌==◌};
 ghost use Rattle.std.specs.List.{list_any};
 ghost use Rattle.arrayvec.specs.ArrayVec.{array_vec_len};
@@ -12,8 +12,8 @@ ghost use Rattle.hardware.specs.Overlay.{with_word};
 
 use crate::places::place_of;
 use crate::redo::MAX_WRITTEN;
-use arrayvec::ArrayVec;
 use meaning::check::is_writing;
+use meaning::log::Log;
 use meaning::slots::{load, store};
 use stock::access::Access;
 use stock::compute::compute;
@@ -22,30 +22,28 @@ use stock::kind::AccessKind;
 use stock::value::Stock;
 
 // The value of a word as it would be.
-fn peek<V: Copy>(words: &[V], places: &ArrayVec<u32, MAX_WRITTEN>, work: &[V], word: u32) -> V
+fn peek<V: Copy>(words: &[V], log: &Log<V, MAX_WRITTEN>, word: u32) -> V
     requires inside { word < length words.now }
-    requires long { 16 ≤ length work.now }
-    ensures { nth (laid places.now.items work.now words.now) word ≡ Some result }
+    requires long { 16 ≤ length log.now.values.now }
+    ensures { nth (laid log.now.places.items log.now.values.now words.now) word ≡ Some result }
 {
-    match place_of(places.as_slice(), word) {
-        Some(place) => load(work, place),
+    match place_of(log.places.as_slice(), word) {
+        Some(place) => load(log.values, place),
         None => load(words, word as usize),
     }
 }
 
 // Sets a word's value aside.
-fn set_aside<V: Copy>(places: &mut ArrayVec<u32, MAX_WRITTEN>, work: &mut [V], word: u32, value: V)
-    requires room { list_any (λ w. w == word) places.old.items ≡ false → array_vec_len places.old < 16 }
-    requires long { 16 ≤ length work.old }
-    ensures places { places.new.items ≡ with_new word places.old.items }
-    ensures words { (ws : List V) → laid places.new.items work.new ws ≡ slice_set (laid places.old.items work.old ws) word value }
+fn set_aside<V: Copy>(log: &mut Log<V, MAX_WRITTEN>, word: u32, value: V)
+    requires room { list_any (λ w. w == word) log.old.places.items ≡ false → array_vec_len log.old.places < 16 }
+    requires long { 16 ≤ length log.old.values.now }
+    ensures places { log.new.places.items ≡ with_new word log.old.places.items }
+    ensures long { length log.new.values.now ≡ length log.old.values.now }
+    ensures words { (ws : List V) → laid log.new.places.items log.new.values.now ws ≡ slice_set (laid log.old.places.items log.old.values.now ws) word value }
 {
-    match place_of(places.as_slice(), word) {
-        Some(place) => store(work, place, value),
-        None => {
-            store(work, places.len(), value);
-            places.push(word);
-        }
+    match place_of(log.places.as_slice(), word) {
+        Some(place) => store(log.values, place, value),
+        None => log.push(word, value),
     }
 }
 
@@ -55,22 +53,22 @@ pub fn step_aside<V: Stock + Copy>(
     access: Access<V>,
     place: usize,
     answers: &mut [V],
-    places: &mut ArrayVec<u32, MAX_WRITTEN>,
-    work: &mut [V],
+    log: &mut Log<V, MAX_WRITTEN>,
 ) -> Result<(), AccessFault>
     requires inside { (access.word < length words.now) × (place < length answers.old) }
-    requires room { writing_access access ≡ true → list_any (λ w. w == access.word) places.old.items ≡ false → array_vec_len places.old < 16 }
-    requires long { 16 ≤ length work.old }
-    ensures outcome { result ≡ ended place (answer V.arithmetic (nth (laid places.old.items work.old words.now)) access) }
-    ensures words { laid places.new.items work.new words.now ≡ words_after (answer V.arithmetic (nth (laid places.old.items work.old words.now)) access) access (laid places.old.items work.old words.now) }
-    ensures answers { answers.new ≡ answers_after (answer V.arithmetic (nth (laid places.old.items work.old words.now)) access) place access answers.old }
-    ensures places { OnOk result (places.new.items ≡ with_word places.old.items access) }
+    requires room { writing_access access ≡ true → list_any (λ w. w == access.word) log.old.places.items ≡ false → array_vec_len log.old.places < 16 }
+    requires long { 16 ≤ length log.old.values.now }
+    ensures long { length log.new.values.now ≡ length log.old.values.now }
+    ensures outcome { result ≡ ended place (answer V.arithmetic (nth (laid log.old.places.items log.old.values.now words.now)) access) }
+    ensures words { laid log.new.places.items log.new.values.now words.now ≡ words_after (answer V.arithmetic (nth (laid log.old.places.items log.old.values.now words.now)) access) access (laid log.old.places.items log.old.values.now words.now) }
+    ensures answers { answers.new ≡ answers_after (answer V.arithmetic (nth (laid log.old.places.items log.old.values.now words.now)) access) place access answers.old }
+    ensures places { OnOk result (log.new.places.items ≡ with_word log.old.places.items access) }
 {
-    let old = peek(words, places, work, access.word);
+    let old = peek(words, log, access.word);
     let kind = AccessKind::try_from(access.kind).ok();
     let new = compute(kind, old, access.value).map_err(|fault| AccessFault { place, fault })?;
     if is_writing(&access) {
-        set_aside(places, work, access.word, new);
+        set_aside(log, access.word, new);
     } else {
         store(answers, place, new);
     }

@@ -10,7 +10,7 @@ use crate::overlay::step_aside;
 use crate::path::HardwarePath;
 use arrayvec::{ArrayVec, CapacityError};
 use meaning::check::is_writing;
-use meaning::log::copy_out;
+use meaning::log::Log;
 use stock::access::Access;
 use stock::fault::AccessFault;
 use stock::value::Stock;
@@ -63,11 +63,11 @@ impl HardwarePath for RedoLog {
         answers: &mut [V],
         work: &mut [V],
     ) -> Result<(), AccessFault> {
-        let mut places = ArrayVec::<u32, MAX_WRITTEN>::new();
+        let mut log = Log::<V, MAX_WRITTEN>::new(work);
         for (i, access) in accesses.iter().enumerate() {
-            step_aside(words, *access, i, answers, &mut places, work)?;
+            step_aside(words, *access, i, answers, &mut log)?;
         }
-        copy_out(words, places.as_slice(), work);
+        log.copy_out(words);
         Ok(())
     }
 }

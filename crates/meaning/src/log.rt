@@ -1,17 +1,49 @@
-// A log: word numbers, and at the same place of a lent slice the value that each word is to have.
-ghost use Rattle.std.specs.Prelude.{◌≡◌, ◌<◌, ◌≤◌, length, All};
+// A log: words by number, and at the same place of a lent slice the value that each had or is to have.
+ghost use Rattle.std.specs.Prelude.{◌≡◌, ◌<◌, ◌≤◌, [], ◌∷◌, ◌++◌, length, All, slice_set};
+ghost use Rattle.arrayvec.specs.ArrayVec.{array_vec_len};
 ghost use Rattle.meaning.specs.Laid.{laid};
 
 use crate::slots::{load, store};
+use arrayvec::ArrayVec;
 
-// The last is written first: of several values for one word the first stays.
-#[tactic(auto, using(crate::proofs::Laying::laid_less))]
-pub fn copy_out<V: Copy>(words: &mut [V], places: &[u32], values: &[V])
-    requires long { length places.now ≤ length values.now }
-    requires inside { All (λ place. place < length words.old) places.now }
-    ensures { words.new ≡ laid places.now values.now words.old }
-{
-    for i in (0..places.len()).rev() {
-        store(words, places[i] as usize, load(values, i));
+#[derive(Drop)]
+pub struct Log<'a, V, const N: usize> {
+    pub places: ArrayVec<u32, N>,
+    pub values: &'a mut [V],
+}
+
+impl<'a, V: Copy, const N: usize> Log<'a, V, N> {
+    pub fn new(values: &'a mut [V]) -> Log<'a, V, N>
+        ensures places { result.places.items ≡ [] }
+        ensures values { result.values.now ≡ values.old }
+    {
+        Log {
+            places: ArrayVec::new(),
+            values,
+        }
+    }
+
+    // Notes a value for a word behind those noted before.
+    pub fn push(&mut self, place: u32, value: V)
+        requires few { array_vec_len self.old.places < N }
+        requires room { array_vec_len self.old.places < length self.old.values.now }
+        ensures places { self.new.places.items ≡ self.old.places.items ++ place ∷ [] }
+        ensures values { self.new.values.now ≡ slice_set self.old.values.now (array_vec_len self.old.places) value }
+    {
+        let n = self.places.len();
+        store(self.values, n, value);
+        self.places.push(place);
+    }
+
+    // The last is written first: of several values for one word the first stays.
+    #[tactic(auto, using(crate::proofs::Laying::laid_less))]
+    pub fn copy_out(&self, words: &mut [V])
+        requires long { array_vec_len self.now.places ≤ length self.now.values.now }
+        requires inside { All (λ place. place < length words.old) self.now.places.items }
+        ensures { words.new ≡ laid self.now.places.items self.now.values.now words.old }
+    {
+        for i in (0..self.places.len()).rev() {
+            store(words, self.places[i] as usize, load(self.values, i));
+        }
     }
 }

@@ -11,31 +11,25 @@ ghost use Rattle.meaning.specs.Store.{nth};
 ghost use Rattle.meaning.specs.Undo.{one, writes_in};
 
 use crate::check::{MAX_ACCESSES, is_writing};
-use crate::log::copy_out;
-use crate::slots::{load, store};
+use crate::log::Log;
+use crate::slots::load;
 use crate::step::step;
-use arrayvec::ArrayVec;
 use stock::access::Access;
 use stock::fault::AccessFault;
 use stock::value::Stock;
 
 // Saves the word that an access writes, so that whatever it leaves there is undone.
 #[tactic(auto, using(crate::proofs::Laying::saved_one))]
-fn save<V: Copy>(
-    words: &[V],
-    access: &Access<V>,
-    places: &mut ArrayVec<u32, MAX_ACCESSES>,
-    saved: &mut [V],
-)
+fn save<V: Copy>(words: &[V], access: &Access<V>, log: &mut Log<V, MAX_ACCESSES>)
     requires inside { access.now.word < length words.now }
-    requires room { writing_access access.now ≡ true → (array_vec_len places.old < 64) × (array_vec_len places.old < length saved.old) }
-    ensures count { array_vec_len places.new ≡ array_vec_len places.old + one (writing_access access.now) }
-    ensures inside { All (λ place. place < length words.now) places.old.items → All (λ place. place < length words.now) places.new.items }
-    ensures undoes { (r : Result V StockFault) → array_vec_len places.old ≤ length saved.old → laid places.new.items saved.new (words_after r access.now words.now) ≡ laid places.old.items saved.old words.now }
+    requires room { writing_access access.now ≡ true → (array_vec_len log.old.places < 64) × (array_vec_len log.old.places < length log.old.values.now) }
+    ensures count { array_vec_len log.new.places ≡ array_vec_len log.old.places + one (writing_access access.now) }
+    ensures long { length log.new.values.now ≡ length log.old.values.now }
+    ensures inside { All (λ place. place < length words.now) log.old.places.items → All (λ place. place < length words.now) log.new.places.items }
+    ensures undoes { (r : Result V StockFault) → array_vec_len log.old.places ≤ length log.old.values.now → laid log.new.places.items log.new.values.now (words_after r access.now words.now) ≡ laid log.old.places.items log.old.values.now words.now }
 {
     if is_writing(access) {
-        store(saved, places.len(), load(words, access.word as usize));
-        places.push(access.word);
+        log.push(access.word, load(words, access.word as usize));
     }
 }
 
@@ -52,11 +46,11 @@ pub fn run_saving<V: Stock + Copy>(
     ensures words { nth words.new ≡ (meaning V.arithmetic accesses.now (nth words.old) answers.old).words }
     ensures answers { answers.new ≡ (meaning V.arithmetic accesses.now (nth words.old) answers.old).answers }
 {
-    let mut places = ArrayVec::<u32, MAX_ACCESSES>::new();
+    let mut log = Log::<V, MAX_ACCESSES>::new(saved);
     for (i, access) in accesses.iter().enumerate() {
-        save(words, access, &mut places, saved);
+        save(words, access, &mut log);
         if let Err(fault) = step(words, *access, i, answers) {
-            copy_out(words, places.as_slice(), saved);
+            log.copy_out(words);
             return Err(fault);
         }
     }

@@ -1,44 +1,32 @@
-use Rattle.std.proofs.Common.{length, ap, ◌∙◌, arith}
+use Rattle.std.proofs.Common.{length, ap, refl, ◌∙◌, arith}
 use Rattle.hardware.proofs.Laying.{absent, aside_there, aside_new, with_there, with_absent}
 use Rattle.hardware.proofs.overlay.set_aside.Goals as goal
 
-pub store-requires-in-None : goal.store-requires-in-None
-store-requires-in-None g c =
-    omega (
-      arith,
-      c.len.ensures.value,
-      c.requires.long,
-      c.requires.room (absent c.args.word c.as_slice.result.now c.args.places.now.items c.place_of.result
-          c.as_slice.ensures.value c.place_of.ensures.value c.in-None.is),
-    )
-
 pub push-requires : goal.push-requires
-push-requires g c = (
-  omega arith,
-  c.requires.room (absent c.args.word c.as_slice.result.now c.args.places.now.items c.place_of.result
-      c.as_slice.ensures.value c.place_of.ensures.value c.in-None.is),
-)
+push-requires g c =
+    let room = c.requires.room (absent c.args.word c.as_slice.result.now c.args.log.now.places.items c.place_of.result
+    c.as_slice.ensures.value c.place_of.ensures.value c.in-None.is) in (omega arith, (room, omega (arith, c.requires.long, room)))
 
 pub returns-in-Some-clause-places : goal.returns-in-Some-clause-places
 returns-in-Some-clause-places g c =
-    with_there c.args.word c.in-Some.place c.as_slice.result.now c.args.places.now.items c.place_of.result
+    with_there c.args.word c.in-Some.place c.as_slice.result.now c.args.log.now.places.items c.place_of.result
     c.as_slice.ensures.value c.place_of.ensures.value c.in-Some.is
 
 pub returns-in-Some-clause-words : goal.returns-in-Some-clause-words
 returns-in-Some-clause-words g c = λ ws.
-    aside_there c.args.word c.as_slice.result.now c.args.places.now.items c.args.work.now ws c.args.value c.place_of.result
+    aside_there c.args.word c.as_slice.result.now c.args.log.now.places.items c.args.log.now.values.now ws c.args.value c.place_of.result
     c.as_slice.ensures.value c.place_of.ensures.value c.in-Some.place c.store.new.values c.in-Some.is
     (omega (arith, c.as_slice.ensures.fits, c.requires.long, ap length c.as_slice.ensures.value)) c.store.ensures
 
 pub returns-in-None-clause-places : goal.returns-in-None-clause-places
 returns-in-None-clause-places g c =
-    c.push.ensures.items ∙ with_absent c.args.word c.as_slice.result.now c.args.places.now.items c.place_of.result
+    c.push.ensures.places ∙ with_absent c.args.word c.as_slice.result.now c.args.log.now.places.items c.place_of.result
     c.as_slice.ensures.value c.place_of.ensures.value c.in-None.is
 
 pub returns-in-None-clause-words : goal.returns-in-None-clause-words
 returns-in-None-clause-words g c =
-    let room = c.requires.room (absent c.args.word c.as_slice.result.now c.args.places.now.items c.place_of.result
+    let room = c.requires.room (absent c.args.word c.as_slice.result.now c.args.log.now.places.items c.place_of.result
     c.as_slice.ensures.value c.place_of.ensures.value c.in-None.is) in
-    λ ws. aside_new c.args.word c.as_slice.result.now c.args.places.now.items c.args.work.now ws c.args.value c.place_of.result
-    c.as_slice.ensures.value c.place_of.ensures.value c.len.result c.push.new.self.items c.store-in-None.new.values c.in-None.is
-    c.len.ensures.value (omega (arith, c.len.ensures.value, c.requires.long, room)) c.push.ensures.items c.store-in-None.ensures
+    λ ws. aside_new c.args.word c.as_slice.result.now c.args.log.now.places.items c.args.log.now.values.now ws c.args.value c.place_of.result
+    c.as_slice.ensures.value c.place_of.ensures.value _ c.push.new.self.places.items c.push.new.self.values.now c.in-None.is
+    refl (omega (arith, c.requires.long, room)) c.push.ensures.places c.push.ensures.values
