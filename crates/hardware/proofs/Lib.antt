@@ -1,2 +1,3 @@
 pub mod Fitting
 mod Laying
+pub mod Listed

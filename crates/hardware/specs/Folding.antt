@@ -40,9 +40,12 @@ module _ {V : Type 0} where
   pub aside_next : (xs : List (Access V)) (i : ℕ) (a : Access V) → i < length xs → a ≡ slice_index_or xs i a → aside (take (i + 1) xs) ≡ with_word (aside (take i xs)) a
   aside_next xs i a h e = fold_more with_word [] xs i a h ∙ ap (with_word (aside (take i xs))) (sym e)
 
+  longer : (bs : List ℕ) (a : Access V) → length bs ≤ length (with_word bs a)
+  longer bs a = (shape_longer bs (a.kind, a.word)).0
+
   all_longer : (bs : List ℕ) (xs : List (Access V)) → length bs ≤ length (fold with_word bs xs)
   all_longer bs [] = omega arith
-  all_longer bs (x ∷ xs) = omega (arith, (shape_longer bs (x.kind, x.word)).0, all_longer (with_word bs x) xs)
+  all_longer bs (x ∷ xs) = omega (arith, longer bs x, all_longer (with_word bs x) xs)
 
   part_le : (bs : List ℕ) (xs : List (Access V)) (i : ℕ) → length (fold with_word bs (take i xs)) ≤ length (fold with_word bs xs)
   part_le bs [] zero = omega arith
@@ -67,21 +70,24 @@ module _ {V : Type 0} where
       ap (λ (t : Bool). cond t (with_new a.word bs) bs) w ∙ ap (λ (t : Bool). cond t bs (bs ++ a.word ∷ [])) n in
       omega (arith, l, ap length grown, length_push bs a.word)
 
-  inside_from : (k : ℕ) (bs : List ℕ) (xs : List (Access V)) → All (λ b. b < k) bs → Inside k xs → All (λ b. b < k) (fold with_word bs xs)
-  inside_from k bs [] h i = h
-  inside_from k bs (x ∷ xs) h i = inside_from k (with_word bs x) xs (one_inside k bs x h (i 0 x (omega arith))) (λ j d l. i (suc j) d (omega arith))
+  pub all_inside : (k : ℕ) (bs : List ℕ) (xs : List (Access V)) → All (λ b. b < k) bs → Inside k xs → All (λ b. b < k) (fold with_word bs xs)
+  all_inside k bs [] h i = h
+  all_inside k bs (x ∷ xs) h i = all_inside k (with_word bs x) xs (one_inside k bs x h (i 0 x (omega arith))) (λ j d l. i (suc j) d (omega arith))
 
   pub aside_inside : (k : ℕ) (xs : List (Access V)) → Inside k xs → All (λ b. b < k) (aside xs)
-  aside_inside k xs i = inside_from k [] xs (All-nil (λ b. b < k)) i
+  aside_inside k xs i = all_inside k [] xs (All-nil (λ b. b < k)) i
 
 -- one access fits every limit
-words_short : (s : List (ℕ × ℕ)) → length s ≤ 1 → length (written_words s) ≤ 1
+pub count_short : (s : List (ℕ × ℕ)) → length s ≤ 1 → write_count s ≤ 1
+count_short s h = omega (arith, h, count_by-le-length writing_shape s)
+
+pub words_short : (s : List (ℕ × ℕ)) → length s ≤ 1 → length (written_words s) ≤ 1
 words_short [] h = omega arith
 words_short (x ∷ []) h = omega (arith, (shape_longer [] x).1)
 words_short (x ∷ (y ∷ s)) h = absurd (omega arith)
 
 pub count_fits : (s : List (ℕ × ℕ)) → length s ≤ 1 → nat_le (write_count s) 32 ≡ true
-count_fits s h = le-leb _ 32 (omega (arith, h, count_by-le-length writing_shape s))
+count_fits s h = le-leb _ 32 (omega (arith, count_short s h))
 
 pub words_fit : (s : List (ℕ × ℕ)) → length s ≤ 1 → nat_le (length (written_words s)) 16 ≡ true
 words_fit s h = le-leb _ 16 (omega (arith, words_short s h))

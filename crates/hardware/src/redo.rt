@@ -32,6 +32,7 @@ fn note_word<V>(
 }
 
 // At most 16 different words are written.
+#[tactic(auto, using(crate::proofs::Listed::listed_next, crate::proofs::Listed::too_many, crate::proofs::Listed::few_enough))]
 fn writes_few_words<V>(accesses: &[Access<V>]) -> bool
     ensures { result ≡ nat_le (length (written_words (shapes accesses.now))) 16 }
 {
@@ -56,6 +57,7 @@ impl HardwarePath for RedoLog {
         writes_few_words(accesses)
     }
 
+    #[tactic(auto, using(crate::proofs::Listed::listed_few, crate::proofs::Listed::listed_inside, crate::proofs::Listed::listed_next, crate::proofs::Listed::listed_room, meaning::proofs::Passed::ready_word, meaning::proofs::Passed::ready_places, meaning::proofs::Laying::length_laid, meaning::proofs::Course::goes_on))]
     fn run_fitting<V: Stock + Copy>(
         &self,
         words: &mut [V],
