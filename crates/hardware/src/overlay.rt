@@ -23,8 +23,7 @@ use stock::value::Stock;
 
 // The value of a word as it would be.
 fn peek<V: Copy>(words: &[V], log: &Log<V, MAX_WRITTEN>, word: u32) -> V
-    requires inside { word < length words.now }
-    requires long { 16 ≤ length log.now.values.now }
+    requires { word < length words.now }
     ensures { nth (laid log.now.places.items log.now.values.now words.now) word ≡ Some result }
 {
     match place_of(log.places.as_slice(), word) {
@@ -35,8 +34,7 @@ fn peek<V: Copy>(words: &[V], log: &Log<V, MAX_WRITTEN>, word: u32) -> V
 
 // Sets a word's value aside.
 fn set_aside<V: Copy>(log: &mut Log<V, MAX_WRITTEN>, word: u32, value: V)
-    requires room { list_any (λ w. w == word) log.old.places.items ≡ false → array_vec_len log.old.places < 16 }
-    requires long { 16 ≤ length log.old.values.now }
+    requires room { list_any (λ w. w == word) log.old.places.items ≡ false → (array_vec_len log.old.places < 16) × (array_vec_len log.old.places < length log.old.values.now) }
     ensures places { log.new.places.items ≡ with_new word log.old.places.items }
     ensures long { length log.new.values.now ≡ length log.old.values.now }
     ensures words { (ws : List V) → laid log.new.places.items log.new.values.now ws ≡ slice_set (laid log.old.places.items log.old.values.now ws) word value }
@@ -56,8 +54,7 @@ pub fn step_aside<V: Stock + Copy>(
     log: &mut Log<V, MAX_WRITTEN>,
 ) -> Result<(), AccessFault>
     requires inside { (access.word < length words.now) × (place < length answers.old) }
-    requires room { writing_access access ≡ true → list_any (λ w. w == access.word) log.old.places.items ≡ false → array_vec_len log.old.places < 16 }
-    requires long { 16 ≤ length log.old.values.now }
+    requires room { writing_access access ≡ true → list_any (λ w. w == access.word) log.old.places.items ≡ false → (array_vec_len log.old.places < 16) × (array_vec_len log.old.places < length log.old.values.now) }
     ensures long { length log.new.values.now ≡ length log.old.values.now }
     ensures outcome { result ≡ ended place (answer V.arithmetic (nth (laid log.old.places.items log.old.values.now words.now)) access) }
     ensures words { laid log.new.places.items log.new.values.now words.now ≡ words_after (answer V.arithmetic (nth (laid log.old.places.items log.old.values.now words.now)) access) access (laid log.old.places.items log.old.values.now words.now) }

@@ -10,6 +10,7 @@ use arrayvec::ArrayVec;
 pub struct Log<'a, V, const N: usize> {
     pub places: ArrayVec<u32, N>,
     pub values: &'a mut [V],
+    ghost within: { array_vec_len places ≤ length values.now },
 }
 
 impl<'a, V: Copy, const N: usize> Log<'a, V, N> {
@@ -38,10 +39,10 @@ impl<'a, V: Copy, const N: usize> Log<'a, V, N> {
     // The last is written first: of several values for one word the first stays.
     #[tactic(auto, using(crate::proofs::Laying::laid_less))]
     pub fn copy_out(&self, words: &mut [V])
-        requires long { array_vec_len self.now.places ≤ length self.now.values.now }
         requires inside { All (λ place. place < length words.old) self.now.places.items }
         ensures { words.new ≡ laid self.now.places.items self.now.values.now words.old }
     {
+        // By place: over `zip` and `rev` the loop would not know which entry it has.
         for i in (0..self.places.len()).rev() {
             store(words, self.places[i] as usize, load(self.values, i));
         }

@@ -26,7 +26,7 @@ fn save<V: Copy>(words: &[V], access: &Access<V>, log: &mut Log<V, MAX_ACCESSES>
     ensures count { array_vec_len log.new.places ≡ array_vec_len log.old.places + one (writing_access access.now) }
     ensures long { length log.new.values.now ≡ length log.old.values.now }
     ensures inside { All (λ place. place < length words.now) log.old.places.items → All (λ place. place < length words.now) log.new.places.items }
-    ensures undoes { (r : Result V StockFault) → array_vec_len log.old.places ≤ length log.old.values.now → laid log.new.places.items log.new.values.now (words_after r access.now words.now) ≡ laid log.old.places.items log.old.values.now words.now }
+    ensures undoes { (r : Result V StockFault) → laid log.new.places.items log.new.values.now (words_after r access.now words.now) ≡ laid log.old.places.items log.old.values.now words.now }
 {
     if is_writing(access) {
         log.push(access.word, load(words, access.word as usize));
@@ -34,7 +34,7 @@ fn save<V: Copy>(words: &[V], access: &Access<V>, log: &mut Log<V, MAX_ACCESSES>
 }
 
 // The meaning of the accesses, which have passed the checks, with as many places for saved values as they write.
-#[tactic(auto, using(crate::proofs::Writes::writes_le, crate::proofs::Writes::writes_next, crate::proofs::Passed::ready_word, crate::proofs::Passed::ready_places, crate::proofs::Passed::ready_few, crate::proofs::Writes::writes_few, crate::proofs::Course::goes_on, crate::proofs::Course::ends_here, crate::proofs::Course::all_done))]
+#[tactic(auto, using(crate::proofs::Passed::ready_word, crate::proofs::Passed::ready_few, crate::proofs::Writes::writes_few, crate::proofs::Course::ends_here, crate::proofs::Course::all_done))]
 pub fn run_saving<V: Stock + Copy>(
     words: &mut [V],
     accesses: &[Access<V>],

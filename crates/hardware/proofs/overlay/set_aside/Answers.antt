@@ -1,11 +1,11 @@
-use Rattle.std.proofs.Common.{length, ap, refl, ◌∙◌, arith}
+use Rattle.std.proofs.Common.{refl, ◌∙◌, arith}
 use Rattle.hardware.proofs.Laying.{absent, aside_there, aside_new, with_there, with_absent}
 use Rattle.hardware.proofs.overlay.set_aside.Goals as goal
 
 pub push-requires : goal.push-requires
 push-requires g c =
     let room = c.requires.room (absent c.args.word c.as_slice.result.now c.args.log.now.places.items c.place_of.result
-    c.as_slice.ensures.value c.place_of.ensures.value c.in-None.is) in (omega arith, (room, omega (arith, c.requires.long, room)))
+    c.as_slice.ensures.value c.place_of.ensures.value c.in-None.is) in (omega arith, room)
 
 pub returns-in-Some-clause-places : goal.returns-in-Some-clause-places
 returns-in-Some-clause-places g c =
@@ -16,7 +16,7 @@ pub returns-in-Some-clause-words : goal.returns-in-Some-clause-words
 returns-in-Some-clause-words g c = λ ws.
     aside_there c.args.word c.as_slice.result.now c.args.log.now.places.items c.args.log.now.values.now ws c.args.value c.place_of.result
     c.as_slice.ensures.value c.place_of.ensures.value c.in-Some.place c.store.new.values c.in-Some.is
-    (omega (arith, c.as_slice.ensures.fits, c.requires.long, ap length c.as_slice.ensures.value)) c.store.ensures
+    c.args.log.now.within c.store.ensures
 
 pub returns-in-None-clause-places : goal.returns-in-None-clause-places
 returns-in-None-clause-places g c =
@@ -29,4 +29,4 @@ returns-in-None-clause-words g c =
     c.as_slice.ensures.value c.place_of.ensures.value c.in-None.is) in
     λ ws. aside_new c.args.word c.as_slice.result.now c.args.log.now.places.items c.args.log.now.values.now ws c.args.value c.place_of.result
     c.as_slice.ensures.value c.place_of.ensures.value _ c.push.new.self.places.items c.push.new.self.values.now c.in-None.is
-    refl (omega (arith, c.requires.long, room)) c.push.ensures.places c.push.ensures.values
+    refl room.1 c.push.ensures.places c.push.ensures.values

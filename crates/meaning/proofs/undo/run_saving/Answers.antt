@@ -1,10 +1,10 @@
-use Rattle.std.proofs.Common.{ℕ, ◌<◌, ◌≤◌, length, All, subst, sym, ap, ◌∙◌, arith}
+use Rattle.std.proofs.Common.{ℕ, ◌<◌, length, All, subst, sym, ap, ◌∙◌, arith}
 use Rattle.meaning.specs.Laid.{laid}
 use Rattle.meaning.specs.Meaning.{answer}
 use Rattle.meaning.specs.Store.{nth}
 use Rattle.meaning.proofs.Course.{goes_on}
 use Rattle.meaning.proofs.Passed.{ready_word}
-use Rattle.meaning.proofs.Writes.{writes_le, writes_next}
+use Rattle.meaning.proofs.Writes.{writes_next}
 use Rattle.meaning.proofs.undo.run_saving.Goals as goal
 
 pub loop-i-preserved : goal.loop-i-preserved
@@ -15,8 +15,6 @@ loop-i-preserved g c =
     let h = c.loop-i-test.true in
     let e = c.step.ensures in
     let inv = c.loop-i.invariant in
-    let room : length c.loop-i.log.places.items ≤ length c.loop-i.log.values.now =
-    omega (arith, inv.count, inv.long, writes_le xs i, ap length c.new-log.ensures.values) in
     let word = ready_word (length c.args.words.now) (length c.args.answers.now) xs c.requires.0 i a h c.index-accesses-i.is in
     record {
       count = omega (arith, c.save.ensures.count, inv.count, writes_next xs i a h c.index-accesses-i.is);
@@ -25,5 +23,5 @@ loop-i-preserved g c =
           c.step.new.words c.step.new.answers c.step.result _ _ (omega (arith, word)) e.outcome c.in_default.is e.words e.answers inv.means;
       long = c.save.ensures.long ∙ inv.long;
       undoes = ap (laid c.save.new.log.places.items c.save.new.log.values.now) e.words
-          ∙ (c.save.ensures.undoes (answer g.V.Stock.arithmetic (nth c.loop-i.words) a) room ∙ inv.undoes);
+          ∙ (c.save.ensures.undoes (answer g.V.Stock.arithmetic (nth c.loop-i.words) a) ∙ inv.undoes);
     }
