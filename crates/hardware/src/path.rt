@@ -18,6 +18,7 @@ pub trait HardwarePath {
         ensures { result ≡ holds self.now (shapes accesses.now) };
 
     // The meaning of a transaction that fits. Nothing is promised of the work values.
+    // `Ready` ties the accesses to words and answers, which a type of checked accesses would not hold: it stays a clause.
     fn run_fitting<V: Stock + Copy>(
         &self,
         words: &mut [V],

@@ -28,6 +28,7 @@ fn admit<V>(
 }
 
 // `saved` is work space of 64 values, a place for each access that there can be.
+// The slices are parameters and no struct: each clause would name them through it, and say no more.
 #[tactic(auto, using(crate::proofs::Admitted::admitted_ready, crate::proofs::Writes::writes_few, crate::proofs::Passed::ready_few))]
 pub fn perform<V: Stock + Copy>(
     words: &mut [V],

@@ -14,7 +14,7 @@ pub enum Mode {
     Write,
 }
 
-// A number that no mode has.
+// A number that no mode has. `stock` has the like for kinds of access: neither crate knows the other.
 #[derive(Clone, Copy, Debug, PartialEq, Eq)]
 pub struct UnknownMode(pub u8);
 
@@ -63,6 +63,7 @@ pub const LAST_THREAD: u8 = 15;
 
 pub const LAST_VERSION: u32 = 1_000_000;
 
+// No invariant says that it is well formed: `pack` takes any record, so one that is not can be made.
 #[derive(Clone, Copy, Debug, Default, PartialEq, Eq)]
 pub struct OwnershipRecord {
     pub mode: Mode,

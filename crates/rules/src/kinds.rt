@@ -19,6 +19,8 @@ use policy::map::{Quotient, Remainder, Scatter};
 use stock::count::Count;
 use stock::lot::Lot;
 
+// Three functions and no parameter: what they share is `kinds_suffice`, and each names kinds that stand.
+
 // The day program's kinds.
 pub fn day_runs()
     ensures { EveryRun day_policy }

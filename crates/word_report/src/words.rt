@@ -44,6 +44,7 @@ impl fmt::Display for Words<'_> {
         for (word, count) in self.counts.iter().enumerate() {
             if is_filled(count) {
                 let line = WordLine {
+                    // `as` is proved to lose nothing; `try_from` would give an error that cannot come.
                     word: word as u32,
                     count: count.value(),
                 };

@@ -102,6 +102,7 @@ impl Stock for Lot {
     }
 
     fn decode(code: u64) -> Option<Lot> {
+        // `as` is proved to lose nothing; `try_from` would give an error that cannot come.
         Lot::new((code % 4_294_967_296) as u32, (code / 4_294_967_296) as u32)
     }
 }
