@@ -19,6 +19,7 @@ pub trait HardwarePath {
 
     // The meaning of a transaction that fits. Nothing is promised of the work values.
     // `Ready` ties the accesses to words and answers, which a type of checked accesses would not hold: it stays a clause.
+    // The slices are parameters and no struct: each clause would name them through it, and say no more.
     fn run_fitting<V: Stock + Copy>(
         &self,
         words: &mut [V],
