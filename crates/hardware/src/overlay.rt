@@ -1,9 +1,8 @@
 // A transaction on the words as they would be: its writes are set aside in a log.
 ghost use Rattle.std.specs.Prelude.{◌≡◌, ◌<◌, ◌≤◌, true, false, List, length, OnOk, Some, slice_set, ◌==◌};
 ghost use Rattle.std.specs.List.{list_any};
-ghost use Rattle.arrayvec.specs.ArrayVec.{array_vec_len};
 ghost use Rattle.stock.specs.Access.{writing_access};
-ghost use Rattle.meaning.specs.Laid.{laid};
+ghost use Rattle.meaning.specs.Laid.{HasRoom, laid};
 ghost use Rattle.meaning.specs.Meaning.{answer};
 ghost use Rattle.meaning.specs.Step.{ended, words_after, answers_after};
 ghost use Rattle.meaning.specs.Store.{nth};
@@ -11,18 +10,16 @@ ghost use Rattle.hardware.specs.Limits.{with_new};
 ghost use Rattle.hardware.specs.Overlay.{with_word};
 
 use crate::places::place_of;
-use crate::redo::MAX_WRITTEN;
 use meaning::check::is_writing;
 use meaning::log::Log;
 use meaning::slots::{load, store};
+use meaning::step::answer_from;
 use stock::access::Access;
-use stock::compute::compute;
 use stock::fault::AccessFault;
-use stock::kind::AccessKind;
 use stock::value::Stock;
 
 // The value of a word as it would be.
-fn peek<V: Copy>(words: &[V], log: &Log<V, MAX_WRITTEN>, word: u32) -> V
+fn peek<V: Copy, const N: usize>(words: &[V], log: &Log<V, N>, word: u32) -> V
     requires { word < length words.now }
     ensures { nth (laid log.now.places.items log.now.values.now words.now) word ≡ Some result }
 {
@@ -33,8 +30,8 @@ fn peek<V: Copy>(words: &[V], log: &Log<V, MAX_WRITTEN>, word: u32) -> V
 }
 
 // Sets a word's value aside.
-fn set_aside<V: Copy>(log: &mut Log<V, MAX_WRITTEN>, word: u32, value: V)
-    requires room { list_any (λ w. w == word) log.old.places.items ≡ false → (array_vec_len log.old.places < 16) × (array_vec_len log.old.places < length log.old.values.now) }
+fn set_aside<V: Copy, const N: usize>(log: &mut Log<V, N>, word: u32, value: V)
+    requires room { list_any (λ w. w == word) log.old.places.items ≡ false → HasRoom N log.old.places.items log.old.values.now }
     ensures places { log.new.places.items ≡ with_new word log.old.places.items }
     ensures long { length log.new.values.now ≡ length log.old.values.now }
     ensures words { (ws : List V) → laid log.new.places.items log.new.values.now ws ≡ slice_set (laid log.old.places.items log.old.values.now ws) word value }
@@ -45,16 +42,17 @@ fn set_aside<V: Copy>(log: &mut Log<V, MAX_WRITTEN>, word: u32, value: V)
     }
 }
 
-// One access on the words as they would be: it changes only what is set aside.
-pub fn step_aside<V: Stock + Copy>(
+// One access on the words as they would be: it changes only what is set aside. It is `step` of `meaning`,
+// but for how words are read and written: a trait over the two ways would be longer than both.
+pub fn step_aside<V: Stock + Copy, const N: usize>(
     words: &[V],
     access: Access<V>,
     place: usize,
     answers: &mut [V],
-    log: &mut Log<V, MAX_WRITTEN>,
+    log: &mut Log<V, N>,
 ) -> Result<(), AccessFault>
     requires inside { (access.word < length words.now) × (place < length answers.old) }
-    requires room { writing_access access ≡ true → list_any (λ w. w == access.word) log.old.places.items ≡ false → (array_vec_len log.old.places < 16) × (array_vec_len log.old.places < length log.old.values.now) }
+    requires room { writing_access access ≡ true → list_any (λ w. w == access.word) log.old.places.items ≡ false → HasRoom N log.old.places.items log.old.values.now }
     ensures long { length log.new.values.now ≡ length log.old.values.now }
     ensures outcome { result ≡ ended place (answer V.arithmetic (nth (laid log.old.places.items log.old.values.now words.now)) access) }
     ensures words { laid log.new.places.items log.new.values.now words.now ≡ words_after (answer V.arithmetic (nth (laid log.old.places.items log.old.values.now words.now)) access) access (laid log.old.places.items log.old.values.now words.now) }
@@ -62,8 +60,7 @@ pub fn step_aside<V: Stock + Copy>(
     ensures places { OnOk result (log.new.places.items ≡ with_word log.old.places.items access) }
 {
     let old = peek(words, log, access.word);
-    let kind = AccessKind::try_from(access.kind).ok();
-    let new = compute(kind, old, access.value).map_err(|fault| AccessFault { place, fault })?;
+    let new = answer_from(old, &access, place)?;
     if is_writing(&access) {
         set_aside(log, access.word, new);
     } else {

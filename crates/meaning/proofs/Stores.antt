@@ -1,25 +1,17 @@
 -- Lists as stores: an element read, an element set, and lists that are equal as stores.
-use Rattle.std.proofs.Common.{◌≡◌, ℕ, zero, suc, ◌<◌, cond, eqb, List, [], ◌∷◌, length, get_or, set, Some, Option, unwrap_or, sym, refl, ap, ◌∙◌, arith}
+use Rattle.std.proofs.Common.{◌≡◌, ℕ, zero, suc, ◌<◌, cond, eqb, List, [], ◌∷◌, length, get_or, set, Some, Option, sym, refl, ap, ◌∙◌, arith}
 use Rattle.std.proofs.lemmas.Bool.{cond-false, ne_eqb}
 use Rattle.std.proofs.lemmas.Bool.Decides.{nat_tests}
+use Rattle.std.proofs.lemmas.List.{get_or-set_same, length-set}
+use Rattle.std.proofs.lemmas.Option.{get_or_from_slice_get, slice_get_read}
 use Rattle.meaning.specs.Store.{nth, put}
 
 same_test : (n b : ℕ) → eqb n b ≡ eqb (suc n) (suc b)
 same_test n b = grind (arith, nat_tests)
 
 module _ {V : Type 0} where
-  pub nth_get_or : (xs : List V) (i : ℕ) (d : V) → i < length xs → nth xs i ≡ Some (get_or xs i d)
-  nth_get_or [] i d h = absurd (omega arith)
-  nth_get_or (x ∷ xs) zero d h = refl
-  nth_get_or (x ∷ xs) (suc i) d h = nth_get_or xs i d (omega arith)
-
   pub nth_is : (xs : List V) (i : ℕ) (v : V) → i < length xs → v ≡ get_or xs i v → nth xs i ≡ Some v
-  nth_is xs i v h e = nth_get_or xs i v h ∙ ap Some (sym e)
-
-  pub nth_unwrap_or : (xs : List V) (i : ℕ) (d : V) → unwrap_or (nth xs i) d ≡ get_or xs i d
-  nth_unwrap_or [] i d = refl
-  nth_unwrap_or (x ∷ xs) zero d = refl
-  nth_unwrap_or (x ∷ xs) (suc i) d = nth_unwrap_or xs i d
+  nth_is xs i v h e = slice_get_read xs (length xs) i v refl h e
 
   -- two stores that agree everywhere are one
   pub same_store : (F G : ℕ → Option V) → ((n : ℕ) → F n ≡ G n) → F ≡ G
@@ -36,9 +28,7 @@ module _ {V : Type 0} where
   nth_set xs b v h = same_store _ _ (λ n. set_at xs b v n h)
 
   pub nth_set_same : (xs : List V) (b : ℕ) (v : V) → b < length xs → nth (set xs b v) b ≡ Some v
-  nth_set_same [] b v h = absurd (omega arith)
-  nth_set_same (x ∷ xs) zero v h = refl
-  nth_set_same (x ∷ xs) (suc b) v h = nth_set_same xs b v (omega arith)
+  nth_set_same xs b v h = nth_is (set xs b v) b v (omega (arith, length-set xs b v)) (sym (get_or-set_same xs b v v h))
 
   pub nth_set_other : (xs : List V) (k b : ℕ) (v : V) → (b ≡ k → ⊥) → nth (set xs k v) b ≡ nth xs b
   nth_set_other [] k b v h = refl
@@ -48,4 +38,4 @@ module _ {V : Type 0} where
   nth_set_other (x ∷ xs) (suc k) (suc b) v h = nth_set_other xs k b v (λ e. h (ap suc e))
 
   pub nth_read : (xs : List V) (i : ℕ) (v : V) → nth xs i ≡ Some v → v ≡ get_or xs i v
-  nth_read xs i v e = sym (ap (λ (o : Option V). unwrap_or o v) e) ∙ nth_unwrap_or xs i v
+  nth_read xs i v e = sym (get_or_from_slice_get xs i v v e)

@@ -1,4 +1,5 @@
 -- What one access leaves in lent lists, by what it answered: the same as the meaning says of stores.
+--   answered        the value that was answered, or the stock fault with its place
 --   ended           granted, or the stock fault with its place
 --   words_after     a writing access that was granted sets its word
 --   answers_after   a look writes its value at its place
@@ -10,6 +11,9 @@ use Rattle.stock.specs.Access.{writing_access}
 use Rattle.meaning.specs.Meaning.{by_result, noted}
 
 module _ {V : Type 0} where
+  abbrev pub answered : ℕ → Result V StockFault → Result V AccessFault
+  answered i r = by_result r (λ v. Ok v) (λ f. Err (record { place = i; fault = f }))
+
   abbrev pub ended : ℕ → Result V StockFault → Result (Unit {0}) AccessFault
   ended i r = by_result r (λ v. Ok tt) (λ f. Err (record { place = i; fault = f }))
 

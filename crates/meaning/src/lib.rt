@@ -5,5 +5,5 @@ pub mod check;
 pub mod log;
 pub mod perform;
 pub mod slots;
-mod step;
+pub mod step;
 pub mod undo;

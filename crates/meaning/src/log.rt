@@ -1,16 +1,19 @@
 // A log: words by number, and at the same place of a lent slice the value that each had or is to have.
 ghost use Rattle.std.specs.Prelude.{◌≡◌, ◌<◌, ◌≤◌, [], ◌∷◌, ◌++◌, length, All, slice_set};
 ghost use Rattle.arrayvec.specs.ArrayVec.{array_vec_len};
-ghost use Rattle.meaning.specs.Laid.{laid};
+ghost use Rattle.meaning.specs.Laid.{HasRoom, laid};
 
 use crate::slots::{load, store};
 use arrayvec::ArrayVec;
 
+// Two lists and no pairs: the values lie in a slice that is lent, since a local array of a type parameter's values
+// cannot be proved to fit memory. That it keeps its length is a clause of whatever changes a log, since a caller
+// does not know it of a slice in a field.
 #[derive(Drop)]
 pub struct Log<'a, V, const N: usize> {
     pub places: ArrayVec<u32, N>,
     pub values: &'a mut [V],
-    ghost within: { array_vec_len places ≤ length values.now },
+    pub ghost within: { array_vec_len places ≤ length values.now },
 }
 
 impl<'a, V: Copy, const N: usize> Log<'a, V, N> {
@@ -26,8 +29,7 @@ impl<'a, V: Copy, const N: usize> Log<'a, V, N> {
 
     // Notes a value for a word behind those noted before.
     pub fn push(&mut self, place: u32, value: V)
-        requires few { array_vec_len self.old.places < N }
-        requires room { array_vec_len self.old.places < length self.old.values.now }
+        requires { HasRoom N self.old.places.items self.old.values.now }
         ensures places { self.new.places.items ≡ self.old.places.items ++ place ∷ [] }
         ensures values { self.new.values.now ≡ slice_set self.old.values.now (array_vec_len self.old.places) value }
     {
@@ -42,7 +44,7 @@ impl<'a, V: Copy, const N: usize> Log<'a, V, N> {
         requires inside { All (λ place. place < length words.old) self.now.places.items }
         ensures { words.new ≡ laid self.now.places.items self.now.values.now words.old }
     {
-        // By place: over `zip` and `rev` the loop would not know which entry it has.
+        // By place: over an iterator from the back the loop's invariant could not say which entries are left.
         for i in (0..self.places.len()).rev() {
             store(words, self.places[i] as usize, load(self.values, i));
         }

@@ -4,7 +4,7 @@ ghost use Rattle.arrayvec.specs.ArrayVec.{array_vec_len};
 ghost use Rattle.stock.specs.declared.fault.StockFault.{StockFault};
 ghost use Rattle.stock.specs.Access.{writing_access};
 ghost use Rattle.meaning.specs.Check.{Ready};
-ghost use Rattle.meaning.specs.Laid.{laid};
+ghost use Rattle.meaning.specs.Laid.{HasRoom, laid};
 ghost use Rattle.meaning.specs.Meaning.{meaning};
 ghost use Rattle.meaning.specs.Step.{words_after};
 ghost use Rattle.meaning.specs.Store.{nth};
@@ -22,7 +22,7 @@ use stock::value::Stock;
 #[tactic(auto, using(crate::proofs::Laying::saved_one))]
 fn save<V: Copy>(words: &[V], access: &Access<V>, log: &mut Log<V, MAX_ACCESSES>)
     requires inside { access.now.word < length words.now }
-    requires room { writing_access access.now ≡ true → (array_vec_len log.old.places < 64) × (array_vec_len log.old.places < length log.old.values.now) }
+    requires room { writing_access access.now ≡ true → HasRoom 64 log.old.places.items log.old.values.now }
     ensures count { array_vec_len log.new.places ≡ array_vec_len log.old.places + one (writing_access access.now) }
     ensures long { length log.new.values.now ≡ length log.old.values.now }
     ensures inside { All (λ place. place < length words.now) log.old.places.items → All (λ place. place < length words.now) log.new.places.items }
