@@ -1,4 +1,6 @@
 // Runs one transaction on equal words by both paths and by its meaning.
+ghost use Rattle.std.specs.Prelude.{◌≤◌};
+
 use decline::Decline;
 use hardware::path::HardwarePath;
 use hardware::redo::RedoLog;
@@ -35,16 +37,18 @@ pub struct Run {
     pub outcome: Result<(), Decline>,
 }
 
-// The run from these words of what is given, on answers that are all zero.
-fn run_of<F: FnOnce(&mut [Count], &mut [Count]) -> Result<(), Decline> + Drop>(
-    zero: Count,
-    first: [Count; 20],
-    run: F,
-) -> Run
+pub fn count(number: u32) -> Count
+    requires { number ≤ 999999 }
+{
+    Count::new(number).unwrap()
+}
+
+// The run of what is given, from words that are all 1 on answers that are all 0.
+fn run_of<F: FnOnce(&mut [Count], &mut [Count]) -> Result<(), Decline> + Drop>(run: F) -> Run
     requires { F.IsAlwaysCallable run }
 {
-    let mut words = first;
-    let mut answers = [zero; 64];
+    let mut words = [count(1); 20];
+    let mut answers = [count(0); 64];
     let outcome = run(&mut words, &mut answers);
     Run {
         words,
@@ -53,26 +57,18 @@ fn run_of<F: FnOnce(&mut [Count], &mut [Count]) -> Result<(), Decline> + Drop>(
     }
 }
 
-pub fn by_path<P: HardwarePath>(
-    path: &P,
-    zero: Count,
-    first: [Count; 20],
-    accesses: &[Access<Count>],
-) -> Run {
-    run_of(zero, first, |words, answers| {
-        run_checked(path, words, accesses, answers, &mut [zero; 32])
-    })
+pub fn by_path<P: HardwarePath>(path: &P, accesses: &[Access<Count>]) -> Run {
+    let mut work = [count(0); 32];
+    run_of(|words, answers| run_checked(path, words, accesses, answers, &mut work))
 }
 
-pub fn by_meaning(zero: Count, first: [Count; 20], accesses: &[Access<Count>]) -> Run {
-    run_of(zero, first, |words, answers| {
-        perform(words, accesses, answers, &mut [zero; 64])
-    })
+pub fn by_meaning(accesses: &[Access<Count>]) -> Run {
+    let mut saved = [count(0); 64];
+    run_of(|words, answers| perform(words, accesses, answers, &mut saved))
 }
 
 // Both paths do what the meaning does.
-pub fn agree(zero: Count, first: [Count; 20], accesses: &[Access<Count>]) -> bool {
-    let meant = by_meaning(zero, first, accesses);
-    meant == by_path(&RedoLog, zero, first, accesses)
-        && meant == by_path(&UndoLog, zero, first, accesses)
+pub fn agree(accesses: &[Access<Count>]) -> bool {
+    let meant = by_meaning(accesses);
+    meant == by_path(&RedoLog, accesses) && meant == by_path(&UndoLog, accesses)
 }

@@ -1,9 +1,8 @@
-use crate::bench::{agree, by_path};
+use crate::bench::{agree, by_path, count};
 use decline::Decline;
 use hardware::path::HardwarePath;
 use hardware::redo::RedoLog;
 use hardware::undo::UndoLog;
-use std::test::Fail;
 use stock::access::Access;
 use stock::count::Count;
 use stock::kind::AccessKind;
@@ -22,55 +21,48 @@ fn round(kind: AccessKind, value: Count, last: u32) -> [Access<Count>; 64] {
 }
 
 #[test]
-fn different_words(rt: HostRuntime) -> Result<(), Fail> {
-    let zero = Count::new(0).ok_or("no count")?;
-    let one = Count::new(1).ok_or("no count")?;
+fn different_words(rt: HostRuntime) {
+    let one = count(1);
     let wide = round(AccessKind::Stow, one, 16);
     assert!(rt; RedoLog.fits(&wide[0..16]));
     assert!(rt; !RedoLog.fits(&wide[0..17]));
-    assert!(rt; agree(zero, [one; 20], &wide[0..16]));
+    assert!(rt; agree(&wide[0..16]));
     let narrow = round(AccessKind::Stow, one, 15);
     assert!(rt; RedoLog.fits(&narrow[0..64]));
-    assert!(rt; agree(zero, [one; 20], &narrow[0..32]));
-    Ok(())
+    assert!(rt; agree(&narrow[0..32]));
 }
 
 #[test]
-fn writing_accesses(rt: HostRuntime) -> Result<(), Fail> {
-    let zero = Count::new(0).ok_or("no count")?;
-    let one = Count::new(1).ok_or("no count")?;
+fn writing_accesses(rt: HostRuntime) {
+    let one = count(1);
     let stows = round(AccessKind::Stow, one, 3);
     assert!(rt; UndoLog.fits(&stows[0..32]));
     assert!(rt; !UndoLog.fits(&stows[0..33]));
     assert!(rt; RedoLog.fits(&stows[0..33]));
-    assert!(rt; agree(zero, [one; 20], &stows[0..32]));
-    Ok(())
+    assert!(rt; agree(&stows[0..32]));
 }
 
 #[test]
-fn gives_up_with_all_as_before(rt: HostRuntime) -> Result<(), Fail> {
-    let zero = Count::new(0).ok_or("no count")?;
-    let one = Count::new(1).ok_or("no count")?;
+fn gives_up_with_all_as_before(rt: HostRuntime) {
+    let zero = count(0);
+    let one = count(1);
     let wide = round(AccessKind::Stow, one, 16);
-    let redo = by_path(&RedoLog, zero, [one; 20], &wide[0..17]);
+    let redo = by_path(&RedoLog, &wide[0..17]);
     assert!(rt; redo.outcome == Err(Decline::Unfit));
     assert!(rt; redo.words == [one; 20]);
     assert!(rt; redo.answers == [zero; 64]);
-    let undo = by_path(&UndoLog, zero, [one; 20], &wide[0..33]);
+    let undo = by_path(&UndoLog, &wide[0..33]);
     assert!(rt; undo.outcome == Err(Decline::Unfit));
     assert!(rt; undo.words == [one; 20]);
-    Ok(())
 }
 
 #[test]
-fn few_and_many(rt: HostRuntime) -> Result<(), Fail> {
-    let zero = Count::new(0).ok_or("no count")?;
-    let one = Count::new(1).ok_or("no count")?;
+fn few_and_many(rt: HostRuntime) {
+    let one = count(1);
     let looks = round(AccessKind::Look, one, 19);
-    assert!(rt; agree(zero, [one; 20], &looks[0..0]));
-    assert!(rt; agree(zero, [one; 20], &looks[0..1]));
-    assert!(rt; agree(zero, [one; 20], &looks[0..64]));
+    assert!(rt; agree(&looks[0..0]));
+    assert!(rt; agree(&looks[0..1]));
+    assert!(rt; agree(&looks[0..64]));
     let draws = round(AccessKind::Draw, one, 19);
-    assert!(rt; agree(zero, [one; 20], &draws[0..1]));
-    Ok(())
+    assert!(rt; agree(&draws[0..1]));
 }

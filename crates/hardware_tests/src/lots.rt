@@ -7,24 +7,23 @@ use std::process::Abort;
 use std::test::Fail;
 use stock::access::Access;
 use stock::fault::{AccessFault, StockFault};
-use stock::kind::AccessKind;
 use stock::lot::Lot;
 
 // A lot goes in, is looked at, and the wrong batch is drawn: the words are as before, the look stands.
 fn other_batch<P: HardwarePath>(rt: &impl Abort, path: &P, four: Lot, five: Lot) {
     let accesses = [
         Access {
-            kind: u8::from(AccessKind::Stow),
+            kind: 3,
             word: 1,
             value: four,
         },
         Access {
-            kind: u8::from(AccessKind::Look),
+            kind: 0,
             word: 1,
             value: five,
         },
         Access {
-            kind: u8::from(AccessKind::Draw),
+            kind: 2,
             word: 1,
             value: five,
         },

@@ -12,7 +12,7 @@ const THREAD_UNIT: u64 = 1024;
 
 const VERSION_UNIT: u64 = 65_536;
 
-// Methods, and not From and TryFrom: the formats call the two ways pack and unpack.
+// Methods: `u64::from(record)` would not say which number it is, and each way has a second promise, on the other.
 impl OwnershipRecord {
     pub fn pack(&self) -> u64
         ensures value { result ≡ packed self.now }

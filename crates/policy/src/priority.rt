@@ -1,5 +1,5 @@
 // What a contention manager compares of two transactions.
-#[derive(Clone, Copy, Debug, PartialEq, Eq)]
+#[derive(Clone, Copy, PartialEq, Eq)]
 pub struct Priority {
     pub class: u8,
     pub start: u64,

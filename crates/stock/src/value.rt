@@ -8,7 +8,7 @@ pub trait Stock: Sized {
     // What is left of an old value when a given one is drawn from it, and what it becomes when one is stowed into it.
     ghost arithmetic: { Arithmetic Self };
 
-    // No `From` and `TryFrom`: the laws below tie the two ways to one another.
+    // Members, and no `From` and `TryFrom`, which would be no plainer: the laws below tie the two ways to one another.
     ghost codes: { Self → ℕ };
 
     ghost decodes: { ℕ → Option Self };

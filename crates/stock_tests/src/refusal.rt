@@ -5,7 +5,7 @@ use stock::fault::StockFault;
 #[derive(Clone, Copy, PartialEq, Eq)]
 pub enum Refusal {
     NoStock,
-    // By its number.
+    // By its number, which the tables pin.
     Fault(u8),
 }
 

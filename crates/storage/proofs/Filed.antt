@@ -7,7 +7,7 @@ use Rattle.std.proofs.lemmas.Grind.{common_steps}
 use Rattle.std.proofs.lemmas.Iterator.Adapters.{position_from-zero}
 use Rattle.std.proofs.lemmas.List.{length-drop, length-take-le, nil_from_length, take-append-drop}
 use Rattle.std.proofs.lemmas.Nat.{from_le_bytes-to_le_bytes_8, le_bytes_8}
-use Rattle.storage.specs.File.{bytes_of, code_of, codes_in, file_of, value_of, is_bad, loaded}
+use Rattle.storage.specs.File.{bytes_of, code_of, chunks_in, file_of, value_of, is_bad, loaded}
 
 -- A part of a file is of bytes, too.
 small_taken : (file : List ℕ) → ((i : ℕ) → get_or file i 0 < 256) → (n i : ℕ) → get_or (take n file) i 0 < 256
@@ -54,7 +54,7 @@ module _ {V : Type 0} (codes : V → ℕ) (decodes : ℕ → Option V) where
         (codes_as_were n (i + 1) (drop 8 file) (omega (arith, length-drop 8 file)) (small_dropped file small 8))
 
     pub stores_as_was : (file : List ℕ) (found : List (List ℕ)) (ws : List V) → length file % 8 ≡ 0 → ((i : ℕ) → get_or file i 0 < 256) →
-        found ≡ codes_in file → position (is_bad decodes) found ≡ None → ws ≡ filter_map (value_of decodes) found → file_of codes ws ≡ file
+        found ≡ chunks_in file → position (is_bad decodes) found ≡ None → ws ≡ filter_map (value_of decodes) found → file_of codes ws ≡ file
     stores_as_was file found ws long small e none read =
         let same = codes_as_were (length file / 8) 0 file (omega arith) small in
-        rw (read, e) (same (sym (position_from-zero (is_bad decodes) (codes_in file)) ∙ ap (position (is_bad decodes)) (sym e) ∙ none))
+        rw (read, e) (same (sym (position_from-zero (is_bad decodes) (chunks_in file)) ∙ ap (position (is_bad decodes)) (sym e) ∙ none))

@@ -1,7 +1,7 @@
 -- Words on file: each word's code in 8 bytes, low byte first, and nothing else.
 --   bytes_of        the eight bytes of a code
 --   code_of         the code of eight bytes
---   codes_in        the codes of a file, eight bytes each
+--   chunks_in       the bytes of a file's codes, eight by eight
 --   wrong_length    a bad number of words, or not 8 bytes for each
 --   measured        the outcome for n words and m bytes: a wrong length is declined
 --   granted         one value if a call is granted, another if it is declined
@@ -30,8 +30,8 @@ bytes_of code = to_le_bytes w64 code
 abbrev pub code_of : List ℕ → ℕ
 code_of bytes = from_le_bytes w64 bytes
 
-abbrev pub codes_in : List ℕ → List (List ℕ)
-codes_in file = first_chunks 8 (length file / 8) file
+abbrev pub chunks_in : List ℕ → List (List ℕ)
+chunks_in file = first_chunks 8 (length file / 8) file
 
 abbrev pub wrong_length : ℕ → ℕ → Bool
 wrong_length n m = bad_count n || not (m == 8 * n)
@@ -61,7 +61,7 @@ module _ {V : Type 0} where
   unless_bad (Some place) vs = Err place
 
   abbrev pub loaded : (ℕ → Option V) → List ℕ → Result (List V) ℕ
-  loaded decodes file = unless_bad (position (is_bad decodes) (codes_in file)) (filter_map (value_of decodes) (codes_in file))
+  loaded decodes file = unless_bad (position (is_bad decodes) (chunks_in file)) (filter_map (value_of decodes) (chunks_in file))
 
   abbrev pub checked : Result (List V) ℕ → Result (Unit {0}) Decline
   checked (Ok vs) = Ok tt

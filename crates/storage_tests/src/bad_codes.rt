@@ -1,16 +1,14 @@
-ghost use Rattle.std.specs.Prelude.{◌<◌};
-
 use decline::Decline;
 use std::test::Fail;
 use stock::count::Count;
 use storage::load;
 
 // Five Counts, all 0 but for the bytes of 1,000,000 at a place.
-fn bad_at(place: usize) -> [u8; 40]
-    requires { place < 5 }
-{
+fn bad_at(place: usize) -> [u8; 40] {
     let mut file = [0; 40];
-    file[8 * place..8 * place + 3].copy_from_slice(&[64, 66, 15]);
+    if place < 5 {
+        file[8 * place..8 * place + 3].copy_from_slice(&[64, 66, 15]);
+    }
     file
 }
 
