@@ -38,8 +38,8 @@ impl From<AccessFault> for Decline {
     }
 }
 
+// Methods, and no conversions: a decline has three numbers, and each needs its name. `Display` writes the name.
 impl Decline {
-    // A method, and no conversion: a decline has three numbers, and each needs its name.
     pub fn number(self) -> u8
         ensures { result ≡ number_of self }
     {

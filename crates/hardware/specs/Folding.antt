@@ -1,9 +1,9 @@
 -- What the limits count over shapes is what the runs count over accesses, step by step.
-use Rattle.std.specs.Prelude.{◌≡◌, ℕ, zero, suc, ◌+◌, ◌<◌, ◌≤◌, Bool, true, false, List, [], ◌∷◌, ◌++◌, length, take, cond, fold, All, slice_index_or, ◌==◌, nat_le}
+use Rattle.std.specs.Prelude.{◌≡◌, ℕ, zero, suc, ◌+◌, ◌<◌, ◌≤◌, true, List, [], ◌∷◌, ◌++◌, length, take, fold, All, slice_index_or, ◌==◌, nat_le}
 use Rattle.std.specs.List.{list_any}
 use Rattle.std.proofs.Common.{sym, ap, ◌∙◌, arith}
 use Rattle.std.proofs.lemmas.List.{length_push}
-use Rattle.std.proofs.lemmas.List.Elements.{All-nil, All-push}
+use Rattle.std.proofs.lemmas.List.Elements.{All-push}
 use Rattle.std.proofs.lemmas.List.Folds.{fold-map}
 use Rattle.std.proofs.lemmas.List.Sums.{count_by-le-length, fold_more}
 use Rattle.std.proofs.lemmas.Bool.{cond_both, le-leb}
@@ -63,19 +63,9 @@ module _ {V : Type 0} where
       (λ _. h) (λ _. All-push (λ b. b < k) bs a.word h l))
       (λ _. h)
 
-  -- a new word finds room while the limit holds with it
-  pub room : (bs : List ℕ) (a : Access V) (m : ℕ) → length (with_word bs a) ≤ m → writing_access a ≡ true → list_any (λ w. w == a.word) bs ≡ false → length bs < m
-  room bs a m l w n =
-      let grown : with_word bs a ≡ bs ++ a.word ∷ [] =
-      ap (λ (t : Bool). cond t (with_new a.word bs) bs) w ∙ ap (λ (t : Bool). cond t bs (bs ++ a.word ∷ [])) n in
-      omega (arith, l, ap length grown, length_push bs a.word)
-
   pub all_inside : (k : ℕ) (bs : List ℕ) (xs : List (Access V)) → All (λ b. b < k) bs → Inside k xs → All (λ b. b < k) (fold with_word bs xs)
   all_inside k bs [] h i = h
   all_inside k bs (x ∷ xs) h i = all_inside k (with_word bs x) xs (one_inside k bs x h (i 0 x (omega arith))) (λ j d l. i (suc j) d (omega arith))
-
-  pub aside_inside : (k : ℕ) (xs : List (Access V)) → Inside k xs → All (λ b. b < k) (aside xs)
-  aside_inside k xs i = all_inside k [] xs (All-nil (λ b. b < k)) i
 
 -- one access fits every limit
 pub count_short : (s : List (ℕ × ℕ)) → length s ≤ 1 → write_count s ≤ 1

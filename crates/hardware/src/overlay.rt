@@ -10,10 +10,10 @@ ghost use Rattle.hardware.specs.Limits.{with_new};
 ghost use Rattle.hardware.specs.Overlay.{with_word};
 
 use crate::places::place_of;
+use meaning::answer::answer_from;
 use meaning::check::is_writing;
 use meaning::log::Log;
 use meaning::slots::{load, store};
-use meaning::step::answer_from;
 use stock::access::Access;
 use stock::fault::AccessFault;
 use stock::value::Stock;

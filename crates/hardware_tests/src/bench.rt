@@ -11,7 +11,7 @@ use stock::access::Access;
 use stock::count::Count;
 use stock::value::Stock;
 
-// The checks that a path may count on, and then the path.
+// The checks that a path may count on, and then the path. `perform` has the like, for 64 saved values and not 32.
 pub fn run_checked<P: HardwarePath, V: Stock + Copy>(
     path: &P,
     words: &mut [V],

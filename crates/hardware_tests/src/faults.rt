@@ -12,6 +12,7 @@ fn broken_at(place: usize, one: Count, many: Count) -> [Access<Count>; 24] {
         word: 0,
         value: one,
     }; 24];
+    // The next word comes after a stow, and not after each access.
     let mut word = 0;
     for (i, access) in accesses.iter_mut().enumerate() {
         access.word = word;

@@ -1,9 +1,10 @@
 // Hardware transactions by their meaning, with what is asked of them first.
 #![tactic(auto)]
 
+pub mod answer;
 pub mod check;
 pub mod log;
 pub mod perform;
 pub mod slots;
-pub mod step;
+mod step;
 pub mod undo;

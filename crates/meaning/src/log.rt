@@ -8,7 +8,8 @@ use arrayvec::ArrayVec;
 
 // Two lists and no pairs: the values lie in a slice that is lent, since a local array of a type parameter's values
 // cannot be proved to fit memory. That it keeps its length is a clause of whatever changes a log, since a caller
-// does not know it of a slice in a field.
+// does not know it of a slice in a field. Contracts speak of the two lists, by `laid` and `HasRoom`: a word over
+// a whole log would only say these again.
 #[derive(Drop)]
 pub struct Log<'a, V, const N: usize> {
     pub places: ArrayVec<u32, N>,

@@ -1,28 +1,15 @@
 // One access on the words.
-ghost use Rattle.std.specs.Prelude.{◌≡◌, ◌<◌, length, Some};
+ghost use Rattle.std.specs.Prelude.{◌≡◌, ◌<◌, length};
 ghost use Rattle.meaning.specs.Meaning.{answer};
-ghost use Rattle.meaning.specs.Step.{answered, ended, words_after, answers_after};
-ghost use Rattle.meaning.specs.Store.{Store, nth};
+ghost use Rattle.meaning.specs.Step.{ended, words_after, answers_after};
+ghost use Rattle.meaning.specs.Store.{nth};
 
+use crate::answer::answer_from;
 use crate::check::is_writing;
 use crate::slots::{load, store};
 use stock::access::Access;
-use stock::compute::compute;
 use stock::fault::AccessFault;
-use stock::kind::AccessKind;
 use stock::value::Stock;
-
-// What an access answers whose word has the old value, with its place at a stock fault.
-pub fn answer_from<V: Stock + Copy>(
-    old: V,
-    access: &Access<V>,
-    place: usize,
-) -> Result<V, AccessFault>
-    ensures { (words : Store V) → words access.now.word ≡ Some old → result ≡ answered place (answer V.arithmetic words access.now) }
-{
-    let kind = AccessKind::try_from(access.kind).ok();
-    compute(kind, old, access.value).map_err(|fault| AccessFault { place, fault })
-}
 
 pub fn step<V: Stock + Copy>(
     words: &mut [V],

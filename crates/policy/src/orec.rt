@@ -63,7 +63,7 @@ pub const LAST_THREAD: u8 = 15;
 
 pub const LAST_VERSION: u32 = 1_000_000;
 
-// No invariant says that it is well formed: `pack` takes any record, so one that is not can be made.
+// No invariant says that it is well formed: `pack` promises the number of any record, and would promise less.
 #[derive(Clone, Copy, Debug, Default, PartialEq, Eq)]
 pub struct OwnershipRecord {
     pub mode: Mode,
