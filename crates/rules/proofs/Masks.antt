@@ -1,5 +1,5 @@
 -- What the two numbers of `masks` say, by recursion on their bits; and the readers of a sound state by them.
-use Rattle.std.proofs.Common.{◌≡◌, ℕ, zero, suc, ◌+◌, ◌*◌, ◌/◌, ◌%◌, ◌^◌, ◌<◌, ◌≤◌, Bool, true, false, ◌&&◌, eqb, Some, None, Option, sym, refl, ap, ◌∙◌, ⊎_elim, pow-suc, arith}
+use Rattle.std.proofs.Common.{◌≡◌, ℕ, zero, suc, ◌+◌, ◌*◌, ◌/◌, ◌%◌, ◌^◌, ◌<◌, Bool, true, false, ◌&&◌, eqb, Some, None, Option, sym, refl, ap, ◌∙◌, ⊎_elim, pow-suc, arith}
 use lib.Count.{ones, ones_cat, ones_in}
 use Rattle.meaning.specs.Undo.{one}
 use Rattle.policy.specs.declared.orec.Mode.TheVariants.{Read}
@@ -14,11 +14,7 @@ use Rattle.rules.specs.Tables.{tally}
 use Rattle.rules.specs.Tests.{is_read}
 use Rattle.rules.proofs.Inv.{tally_same}
 use Rattle.rules.proofs.Take.{mode_read}
-use Rattle.rules.proofs.Sets.{tally_none}
-
-one_le : (b : Bool) → one b ≤ 1
-one_le true = omega arith
-one_le false = omega arith
+use Rattle.rules.proofs.Sets.{one_le, tally_none}
 
 held_unread : (o : OwnershipRecord) (x : Option Seen) → is_read o.mode ≡ false → reads_it o x ≡ false
 held_unread o None h = refl

@@ -3,7 +3,8 @@ use Rattle.std.proofs.Common.{◌≡◌, ℕ, zero, suc, ◌<◌, ◌≤◌, Boo
 use Rattle.rules.specs.Sound.{Distinct}
 use Rattle.rules.specs.WriteSet.{has, place, with}
 use Rattle.std.proofs.lemmas.List.{length_push}
-use Rattle.std.proofs.lemmas.Bool.{both_ways, cases_Bool, cond_both, cond-false, cond-true, eq-eqb, eqb-false, eqb-true, false≢true, ne_eqb, or_cases, or_from, or_left, or_parts, or_right}
+use Rattle.std.proofs.lemmas.List.Folds.{list_any-append, list_any_at}
+use Rattle.std.proofs.lemmas.Bool.{both_ways, cases_Bool, cond_both, cond-false, cond-true, eq-eqb, eqb-false, eqb-true, false≢true, ne_eqb, or_cases, or_from, or_parts, or_right}
 use Rattle.rules.proofs.Basics.{never}
 
 pub place_below : (b : ℕ) (ws : List ℕ) → has b ws ≡ true → place b ws < length ws
@@ -42,9 +43,7 @@ place_same q b (w ∷ ws) h e =
     (cases_Bool (eqb w q))
 
 pub has_get : (ws : List ℕ) (n : ℕ) → n < length ws → has (get_or ws n 0) ws ≡ true
-has_get [] n l = absurd (omega arith)
-has_get (w ∷ ws) zero l = or_left (eqb w w) (has w ws) (eq-eqb w w refl)
-has_get (w ∷ ws) (suc n) l = or_right (eqb w (get_or ws n 0)) (has (get_or ws n 0) ws) (has_get ws n (omega arith))
+has_get ws n l = list_any_at (λ w. eqb w (get_or ws n 0)) ws n 0 l (eq-eqb (get_or ws n 0) (get_or ws n 0) refl)
 
 pub place_get : (ws : List ℕ) (n : ℕ) → Distinct ws → n < length ws → place (get_or ws n 0) ws ≡ n
 place_get [] n d l = omega arith
@@ -55,17 +54,12 @@ place_get (w ∷ ws) (suc n) d l =
     (ne_eqb w (get_or ws n 0) (λ e. both_ways (has w ws) d.0 (subst (λ z. has z ws ≡ true) (sym e) h)))
     ∙ ap suc (place_get ws n d.1 (omega arith))
 
+or_false : (x : Bool) → (x || false) ≡ x
+or_false true = refl
+or_false false = refl
+
 pub has_push : (q b : ℕ) (ws : List ℕ) → has q (ws ++ b ∷ []) ≡ (has q ws || eqb b q)
-has_push q b [] = unit (eqb b q)
-  where
-    unit : (x : Bool) → (x || false) ≡ (false || x)
-    unit true = refl
-    unit false = refl
-has_push q b (w ∷ ws) = ap (λ x. eqb w q || x) (has_push q b ws) ∙ assoc (eqb w q) (has q ws) (eqb b q)
-  where
-    assoc : (x y z : Bool) → (x || (y || z)) ≡ ((x || y) || z)
-    assoc true y z = refl
-    assoc false y z = refl
+has_push q b ws = list_any-append (λ w. eqb w q) ws (b ∷ []) ∙ ap (λ x. has q ws || x) (or_false (eqb b q))
 
 pub place_push : (q b : ℕ) (ws : List ℕ) → has q ws ≡ true → place q (ws ++ b ∷ []) ≡ place q ws
 place_push q b [] h = absurd (false≢true h)
@@ -98,11 +92,7 @@ distinct_push b (w ∷ ws) d h =
 pub added_other : (q b : ℕ) (ws : List ℕ) → (q ≡ b → ⊥) → has q (with b ws) ≡ has q ws
 added_other q b ws n =
     cond_both (has b ws) ws (ws ++ b ∷ []) (λ x. has q x ≡ has q ws) (λ _. refl)
-    (λ _. has_push q b ws ∙ ap (λ x. has q ws || x) (ne_eqb b q (λ e. n (sym e))) ∙ unit (has q ws))
-  where
-    unit : (x : Bool) → (x || false) ≡ x
-    unit true = refl
-    unit false = refl
+    (λ _. has_push q b ws ∙ ap (λ x. has q ws || x) (ne_eqb b q (λ e. n (sym e))) ∙ or_false (has q ws))
 
 pub added_self : (b : ℕ) (ws : List ℕ) → has b (with b ws) ≡ true
 added_self b ws =

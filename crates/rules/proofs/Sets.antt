@@ -44,13 +44,13 @@ tally_zero h (suc n) t e l =
     ⊎_elim (λ (k : t ≡ n). ap h k ∙ z) (λ (k : t ≡ n → ⊥). tally_zero h n t (omega (arith, e)) (omega arith)) (cases_eq t n))
     (cases_Bool (h n))
 
+pub one_le : (b : Bool) → one b ≤ 1
+one_le true = omega arith
+one_le false = omega arith
+
 pub tally_most : (h : ℕ → Bool) (n : ℕ) → tally h n ≤ n
 tally_most h zero = omega arith
-tally_most h (suc n) = let i = tally_most h n in let j = bit (h n) in omega (arith, i, j)
-  where
-    bit : (b : Bool) → one b ≤ 1
-    bit true = omega arith
-    bit false = omega arith
+tally_most h (suc n) = omega (arith, tally_most h n, one_le (h n))
 
 -- two threads that count are two
 pub tally_two : (h : ℕ → Bool) (n s t : ℕ) → s < n → t < n → (s ≡ t → ⊥) → h s ≡ true → h t ≡ true → 2 ≤ tally h n

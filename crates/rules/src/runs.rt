@@ -10,16 +10,19 @@ use policy::map::OrecMap;
 use stock::value::Stock;
 
 // One serial order gives the values and every answer.
+#[tactic(auto, using(crate::proofs::WholeRuns::runs_serial))]
 pub fn runs_serial<V>()
     ensures { RunsSerial V }
 {}
 
 // No transaction, finished or not, has read values that never stood together.
+#[tactic(auto, using(crate::proofs::WholeRuns::runs_consistent))]
 pub fn runs_consistent<V>()
     ensures { RunsConsistent V }
 {}
 
 // Every run is lawful and comes to a memory of which the facts of Reached hold, for every policy that meets its laws.
+#[tactic(auto, using(crate::proofs::WholeRuns::every_run))]
 pub fn laws_suffice<V>()
     ensures { LawsSuffice V }
 {}
