@@ -14,11 +14,11 @@ pub trait Gate {
     fn admits(&self, mode: Mode, under_way: usize, writing: bool) -> bool
         ensures { result ≡ opens self.now mode under_way writing };
 
-    // While one is under way, no look at a record in write mode.
-    ghost look: { (g : Self) (m : Mode) (n : ℕ) → 1 ≤ n → opens g m n false ≡ true → m ≢ Write };
+    // While one to all of the 16 are under way, no look at a record in write mode.
+    ghost look: { (g : Self) (m : Mode) (n : ℕ) → 1 ≤ n → n ≤ 16 → opens g m n false ≡ true → m ≢ Write };
 
-    // While one is under way, a writing access only at a free record.
-    ghost write: { (g : Self) (m : Mode) (n : ℕ) → 1 ≤ n → opens g m n true ≡ true → m ≡ Free };
+    // Nor a writing access but at a free record.
+    ghost write: { (g : Self) (m : Mode) (n : ℕ) → 1 ≤ n → n ≤ 16 → opens g m n true ≡ true → m ≡ Free };
 
     // With none under way every record is free, and nothing is declined.
     ghost alone: { (g : Self) (w : Bool) → opens g Free 0 w ≡ true };

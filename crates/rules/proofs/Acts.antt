@@ -1,4 +1,4 @@
--- A step of an active transaction is answered.
+-- An access of an active transaction is answered: the memory stays, or a redo value is written.
 use Rattle.std.proofs.Common.{◌≡◌, ℕ, ◌+◌, ◌*◌, ◌<◌, Bool, true, false, cond, List, [], ◌∷◌, ◌++◌, length, Some, Ok, Result, unwrap_or, sym, refl, ap, ◌∙◌, subst, ⊎_elim, arith}
 use Rattle.meaning.specs.Meaning.{answer}
 use Rattle.meaning.specs.Store.{Store, put}
@@ -7,7 +7,7 @@ use Rattle.policy.specs.declared.orec.OwnershipRecord.{OwnershipRecord}
 use Rattle.rules.specs.Accessing.{seen}
 use Rattle.rules.specs.Ledger.{Ledger, joined}
 use Rattle.rules.specs.Logical.{logical, pends}
-use Rattle.rules.specs.Machine.{Machine, drafted}
+use Rattle.rules.specs.Machine.{Machine, with_redo}
 use Rattle.rules.specs.Policy.{Policy}
 use Rattle.rules.specs.Replay.{Answered, effect, replayed, stored}
 use Rattle.rules.specs.State.{Descriptor, owns_to_write, with_writes}
@@ -57,11 +57,11 @@ module _ {V : Type 0} (P : Policy V) (m : Machine V) (l : Ledger V) (good : Good
         ap (λ x. cond (has o.word (g t).writes) (m.redo (t * 32 + place o.word (g t).writes)) x)
         (sym (none_logical m o.word 16 none))
 
-    its_answer : answer P.arithmetic (replayed P.arithmetic (logical m) es) o ≡ computed P.arithmetic (kind_of o.kind) (unwrap_or (seen t m o.word) o.value) o.value
+    its_answer : answer P.arithmetic (replayed P.arithmetic (logical m) es) o ≡ answer P.arithmetic (seen t m) o
     its_answer = ap (λ x. computed P.arithmetic (kind_of o.kind) (unwrap_or x o.value) o.value) (sure.views tt o.word ∙ sym seen_view)
 
     -- the memory stays
-    module _ (a : Result V StockFault) (ha : computed P.arithmetic (kind_of o.kind) (unwrap_or (seen t m o.word) o.value) o.value ≡ a)
+    module _ (a : Result V StockFault) (ha : answer P.arithmetic (seen t m) o ≡ a)
         (still : (F : Store V) → answer P.arithmetic F o ≡ a → (q : ℕ) → effect P.arithmetic F o q ≡ F q) where
       abbrev e₁ : Answered V
       e₁ = record { asked = o; got = a }
@@ -91,7 +91,7 @@ module _ {V : Type 0} (P : Policy V) (m : Machine V) (l : Ledger V) (good : Good
           }
 
     -- a redo value is written
-    module _ (v : V) (hv : computed P.arithmetic (kind_of o.kind) (unwrap_or (seen t m o.word) o.value) o.value ≡ Ok v)
+    module _ (v : V) (hv : answer P.arithmetic (seen t m) o ≡ Ok v)
         (writes : writing_access o ≡ true) (mine : owns_to_write t (g t).version (f (P.rules.orec_of o.word)) ≡ true)
         (room : has o.word (g t).writes ≡ false → length (g t).writes < 32) where
       abbrev e₂ : Answered V
@@ -107,7 +107,7 @@ module _ {V : Type 0} (P : Policy V) (m : Machine V) (l : Ledger V) (good : Good
       d₂ = with_writes (with o.word ws) (g t)
 
       abbrev m₂ : Machine V
-      m₂ = drafted t o.word v m
+      m₂ = with_redo t o.word v m
 
       small : place o.word ws < 32
       small = room_place o.word ws (good.inv.shape t).few room
@@ -116,7 +116,7 @@ module _ {V : Type 0} (P : Policy V) (m : Machine V) (l : Ledger V) (good : Good
       turn₂ =
           record {
             desc_other = λ s n. put_other g t s d₂ n;
-            match_was = λ _ _ _ h. h;
+            valid_was = λ _ _ _ h. h;
             owned_still = λ _ _ _ _ h. h;
             redo_other = λ s j n k. put_other m.redo p (s * 32 + j) (Some v) (λ e. omega (arith, small, e, n));
           }
@@ -180,8 +180,8 @@ module _ {V : Type 0} (P : Policy V) (m : Machine V) (l : Ledger V) (good : Good
           (λ e. subst (λ z. Some v ≡ view P m₂ t z) (sym e) here)
           (λ n. sym (same_replay q) ∙ sure.views tt q ∙ there q n)
 
-      pub sure_draft : Follows P (Unit {0}) m₂ t (es ++ e₂ ∷ [])
-      sure_draft =
+      pub sure_redo : Follows P (Unit {0}) m₂ t (es ++ e₂ ∷ [])
+      sure_redo =
           record {
             touches =
                 subst (λ d. AllByRecursion (λ x. touched t d (P.rules.orec_of x.asked.word) (f (P.rules.orec_of x.asked.word)) ≡ true) (es ++ e₂ ∷ [])) (sym (put_same g t d₂))
@@ -192,9 +192,9 @@ module _ {V : Type 0} (P : Policy V) (m : Machine V) (l : Ledger V) (good : Good
             views = λ _. views₂;
           }
 
-      pub good_draft : Good P m₂ (joined t o (Ok v) l)
-      good_draft =
+      pub good_redo : Good P m₂ (joined t o (Ok v) l)
+      good_redo =
           good_turn P m m₂ l (joined t o (Ok v) l) t good turn₂ (inv_listed f g t below good.inv o.word act room) wrote₂
           (λ b. sym (same₂ b) ∙ good.figures b) (λ s n. put_other l.accesses t s (es ++ e₂ ∷ []) n) (λ _ _ _ _ b _. same₂ b)
           (λ _ _. subst (Follows P (Valid P m₂ t) m₂ t) (sym (put_same l.accesses t (es ++ e₂ ∷ [])))
-          (record { touches = sure_draft.touches; replays = λ _. sure_draft.replays tt; views = λ _. sure_draft.views tt }))
+          (record { touches = sure_redo.touches; replays = λ _. sure_redo.replays tt; views = λ _. sure_redo.views tt }))

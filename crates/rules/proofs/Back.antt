@@ -1,4 +1,4 @@
--- A redo value is written back.
+-- Writing back a redo value keeps a memory good, and changes no logical value.
 use Rattle.std.proofs.Common.{◌≡◌, ℕ, ◌+◌, ◌-◌, ◌*◌, ◌<◌, true, false, ◌&&◌, leb, List, length, get_or, sym, refl, ap, ◌∙◌, subst, ⊎_elim, arith}
 use Rattle.meaning.specs.Store.{put}
 use Rattle.policy.specs.declared.orec.OwnershipRecord.{OwnershipRecord}

@@ -1,5 +1,5 @@
 -- What a sound state is made of, and that a new state has it and each elementary change keeps it, from the core of Inv, Take and Release.
-use Rattle.std.proofs.Common.{◌≡◌, ℕ, zero, suc, ◌+◌, ◌<◌, ◌≤◌, Bool, true, false, [], ◌∷◌, ◌++◌, length, is_some, Some, None, Option, sym, refl, ap, ◌∙◌, subst, ⊎_elim, arith}
+use Rattle.std.proofs.Common.{◌≡◌, ℕ, zero, suc, ◌+◌, ◌<◌, ◌≤◌, Bool, true, false, [], ◌∷◌, ◌++◌, length, is_some, Some, None, Option, sym, refl, ap, ◌∙◌, subst, ⊎_elim, arith, ◌*◌}
 use Rattle.std.specs.List.{AllByRecursion}
 use Rattle.std.proofs.ByRecursion.{All-push}
 use Rattle.std.proofs.lemmas.Bool.{cases_eq, cond_both, false≢true}
@@ -9,17 +9,16 @@ use Rattle.policy.specs.declared.orec.Mode.TheVariants.{Write}
 use Rattle.policy.specs.declared.orec.OwnershipRecord.{OwnershipRecord}
 use Rattle.rules.specs.declared.descriptor.Seen.{Seen}
 use Rattle.rules.specs.declared.descriptor.Status.TheVariants.{Aborted, Active, Committed, Idle}
-use Rattle.rules.specs.Changes.{aborted_by, backed_by, ended_by, kept_by, listed_by, begun_by, read_by, written_by}
-use Rattle.rules.specs.Parts.{kept, newly_begun}
+use Rattle.rules.specs.Changes.{aborted_by, backed_by, ended_by, kept_by, listed_by, begun_by, kept, newly_begun, read_by, written_by}
 use Rattle.rules.specs.ReadSet.{seen_of, size}
-use Rattle.rules.specs.Sound.{SoundPriority, gone}
+use Rattle.rules.specs.Sound.{Each, SoundPriority, gone}
 use Rattle.rules.specs.State.{Descriptor, State, idle, new_state, with_reads, with_status, with_writes, with_written_back}
 use Rattle.rules.specs.Tables.{tally, total}
 use Rattle.rules.specs.Tests.{is_committed, is_idle, is_read, is_write}
 use Rattle.rules.specs.WriteSet.{has, with}
 use Rattle.rules.proofs.Basics.{put_at, put_other, put_same}
 use Rattle.rules.proofs.Alone.{inv_aborted, inv_backed, inv_begun, inv_listed}
-use Rattle.rules.proofs.Inv.{Inv}
+use Rattle.rules.proofs.Inv.{Inv, active_unwritten}
 use Rattle.rules.proofs.Release.{inv_release, leaves_idle, leaves_kept}
 use Rattle.rules.proofs.Sets.{tally_none, tally_up}
 use Rattle.rules.proofs.Take.{inv_take_read, inv_take_write}
@@ -41,6 +40,7 @@ Begun begins t d = (d.status ≡ Idle → ⊥) → SoundPriority t begins d.prio
 pub record Bounds (c : State) : Type 0 where
   pub versions : (t : ℕ) → (c.descriptors t).version ≤ 1000000
   pub sizes : (t : ℕ) → size (c.descriptors t).reads ≤ 32
+  pub seen : (t r : ℕ) → Each (λ e. e.thread ≤ 15) ((c.descriptors t).reads r)
   pub words : (t : ℕ) → AllByRecursion (λ b. b < 4096) (c.descriptors t).writes
   pub begun : (t : ℕ) → Begun c.begins t (c.descriptors t)
   pub sum : c.begins ≡ total (λ t. (c.descriptors t).version) 16
@@ -68,6 +68,10 @@ total_up h k (suc n) t l a e =
     below h k zero t l a = refl
     below h k (suc n) t l a = let i = below h k n t (omega arith) a in let j = a n (λ e. omega (arith, e, l)) in omega (arith, i, j)
 
+total_most : (h : ℕ → ℕ) (n k : ℕ) → ((t : ℕ) → h t ≤ k) → total h n ≤ n * k
+total_most h zero k e = omega arith
+total_most h (suc n) k e = omega (arith, total_most h n k e, e n)
+
 tally_le : (h k : ℕ → Bool) (n : ℕ) → ((r : ℕ) → h r ≡ true → k r ≡ true) → tally h n ≤ tally k n
 tally_le h k zero e = omega arith
 tally_le h k (suc n) e = let i = tally_le h k n e in let j = by (h n) (k n) (e n) in omega (arith, i, j)
@@ -87,12 +91,13 @@ size_none es e = let i = tally_none (λ r. is_some (es r)) 64 (λ r _. ap is_som
 -- one descriptor changes, and keeps its version
 bounds_put :
     (c : State) (f : ℕ → OwnershipRecord) (t : ℕ) (d : Descriptor) → d.version ≡ (c.descriptors t).version → size d.reads ≤ 32 →
-    AllByRecursion (λ b. b < 4096) d.writes → Begun c.begins t d → Bounds c → Bounds (record { orecs = f; descriptors = put c.descriptors t d; begins = c.begins })
-bounds_put c f t d v n ws p b =
+    ((r : ℕ) → Each (λ e. e.thread ≤ 15) (d.reads r)) → AllByRecursion (λ b. b < 4096) d.writes → Begun c.begins t d → Bounds c → Bounds (record { orecs = f; descriptors = put c.descriptors t d; begins = c.begins })
+bounds_put c f t d v n es ws p b =
     let g = c.descriptors in
     record {
       versions = λ s. put_at g t s d (λ x. x.version ≤ 1000000) (λ _. omega (arith, v, b.versions t)) (λ _. b.versions s);
       sizes = λ s. put_at g t s d (λ x. size x.reads ≤ 32) (λ _. n) (λ _. b.sizes s);
+      seen = λ s r. put_at g t s d (λ x. Each (λ e. e.thread ≤ 15) (x.reads r)) (λ _. es r) (λ _. b.seen s r);
       words = λ s. put_at g t s d (λ x. AllByRecursion (λ b. b < 4096) x.writes) (λ _. ws) (λ _. b.words s);
       begun = λ s. put_at g t s d (Begun c.begins s) (λ e. subst (λ z. Begun c.begins z d) (sym e) p) (λ _. b.begun s);
       sum =
@@ -115,7 +120,7 @@ module _ (c : State) (t : ℕ) (below : t < 16) where
       record {
         inv = inv_release f g t true (idle (g t).version) below (leaves_idle (g t)) i;
         left = λ s. put_at g t s (idle (g t).version) Kept (λ _ e. absurd (false≢true (ap is_committed e))) (left s);
-        bounds = bounds_put c _ t (idle (g t).version) refl (size_none (λ r. None) (λ _. refl)) tt (λ n. absurd (n refl)) b;
+        bounds = bounds_put c _ t (idle (g t).version) refl (size_none (λ r. None) (λ _. refl)) (λ _. tt) tt (λ n. absurd (n refl)) b;
       }
 
   pub state_ended : Steady c → Steady (ended_by t c)
@@ -124,22 +129,27 @@ module _ (c : State) (t : ℕ) (below : t < 16) where
   pub state_begun : (class : ℕ) → class ≤ 9 → (g t).status ≡ Idle → ((g t).version ≡ 1000000 → ⊥) → Steady c → Steady (begun_by t class c)
   state_begun class few idl v s =
       let d : Descriptor = newly_begun t class (c.begins + 1) ((g t).version + 1) in
+      let versions : (q : ℕ) → (put g t d q).version ≤ 1000000 =
+      λ q. put_at g t q d (λ x. x.version ≤ 1000000) (λ _. omega (arith, s.bounds.versions t, v)) (λ _. s.bounds.versions q) in
+      let sum : c.begins + 1 ≡ total (λ q. (put g t d q).version) 16 =
+      ap (λ n. n + 1) s.bounds.sum
+      ∙ sym (total_up (λ q. (g q).version) (λ q. (put g t d q).version) 16 t below
+      (λ q n. ap (λ x. x.version) (sym (put_other g t q d n))) (ap (λ x. x.version) (put_same g t d))) in
+      let few_begins : c.begins + 1 ≤ 16000000 = omega (arith, sum, total_most (λ q. (put g t d q).version) 16 1000000 versions) in
       record {
         inv = inv_begun f g t below s.inv class (c.begins + 1) idl;
         left = left_put g t d s.left (λ e. absurd (false≢true (ap is_committed e)));
         bounds =
             record {
-              versions = λ q. put_at g t q d (λ x. x.version ≤ 1000000) (λ _. omega (arith, s.bounds.versions t, v)) (λ _. s.bounds.versions q);
+              versions = versions;
               sizes = λ q. put_at g t q d (λ x. size x.reads ≤ 32) (λ _. size_none (λ r. None) (λ _. refl)) (λ _. s.bounds.sizes q);
+              seen = λ q r. put_at g t q d (λ x. Each (λ e. e.thread ≤ 15) (x.reads r)) (λ _. tt) (λ _. s.bounds.seen q r);
               words = λ q. put_at g t q d (λ x. AllByRecursion (λ b. b < 4096) x.writes) (λ _. tt) (λ _. s.bounds.words q);
               begun =
                   λ q. put_at g t q d (Begun (c.begins + 1) q)
-                  (λ e _. record { possible = record { class = few; start = omega arith; thread = omega (arith, below) }; counted = omega arith; own_thread = sym e })
+                  (λ e _. record { possible = record { class = few; start = omega arith; last_start = few_begins; thread = omega (arith, below) }; counted = omega arith; own_thread = sym e })
                   (λ _ n. later q (s.bounds.begun q n));
-              sum =
-                  ap (λ n. n + 1) s.bounds.sum
-                  ∙ sym (total_up (λ q. (g q).version) (λ q. (put g t d q).version) 16 t below
-                  (λ q n. ap (λ x. x.version) (sym (put_other g t q d n))) (ap (λ x. x.version) (put_same g t d)));
+              sum = sum;
             };
       }
     where
@@ -157,9 +167,9 @@ module _ (c : State) (t : ℕ) (below : t < 16) where
     pub state_aborted : Steady (aborted_by t c)
     state_aborted =
         record {
-          inv = inv_aborted f g t below s.inv;
+          inv = inv_aborted f g t below s.inv act;
           left = left_put g t (with_status Aborted (g t)) s.left (λ e. absurd (false≢true (ap is_committed e)));
-          bounds = bounds_put c f t (with_status Aborted (g t)) refl (s.bounds.sizes t) (s.bounds.words t) (λ _. since) s.bounds;
+          bounds = bounds_put c f t (with_status Aborted (g t)) refl (s.bounds.sizes t) (s.bounds.seen t) (s.bounds.words t) (λ _. since) s.bounds;
         }
 
     pub state_listed : (b : ℕ) → b < 4096 → (has b (g t).writes ≡ false → length (g t).writes < 32) → Steady (listed_by t b c)
@@ -170,7 +180,7 @@ module _ (c : State) (t : ℕ) (below : t < 16) where
           inv = inv_listed f g t below s.inv b act room;
           left = left_put g t d s.left (still d refl);
           bounds =
-              bounds_put c f t d refl (s.bounds.sizes t)
+              bounds_put c f t d refl (s.bounds.sizes t) (s.bounds.seen t)
               (cond_both (has b ws) ws (ws ++ b ∷ []) (AllByRecursion (λ b. b < 4096)) (λ _. s.bounds.words t)
               (λ _. All-push (λ b. b < 4096) ws b (s.bounds.words t) l))
               (λ _. since) s.bounds;
@@ -180,8 +190,8 @@ module _ (c : State) (t : ℕ) (below : t < 16) where
     state_kept some =
         record {
           inv = inv_release f g t false (kept (g t)) below (leaves_kept (g t) act (s.inv.shape t)) s.inv;
-          left = left_put g t (kept (g t)) s.left (λ _. omega (arith, (s.inv.shape t).active_written act, some));
-          bounds = bounds_put c _ t (kept (g t)) refl (size_none (λ r. None) (λ _. refl)) (s.bounds.words t) (λ _. since) s.bounds;
+          left = left_put g t (kept (g t)) s.left (λ _. omega (arith, active_unwritten (g t) (s.inv.shape t) act, some));
+          bounds = bounds_put c _ t (kept (g t)) refl (size_none (λ r. None) (λ _. refl)) (λ _. tt) (s.bounds.words t) (λ _. since) s.bounds;
         }
 
     module _ (r : ℕ) (small : r < 64) (free : (f r).mode ≡ Write → gone (g (f r).thread).status ≡ true) where
@@ -195,7 +205,9 @@ module _ (c : State) (t : ℕ) (below : t < 16) where
           record {
             inv = inv_take_read f g t r below act free s.inv small fresh;
             left = left_put g t d s.left (still d refl);
-            bounds = bounds_put c _ t d refl (subst (λ k. k ≤ 32) (sym n) room) (s.bounds.words t) (λ _. since) s.bounds;
+            bounds = bounds_put c _ t d refl (subst (λ k. k ≤ 32) (sym n) room)
+                (λ q. put_at (g t).reads r q x (Each (λ e. e.thread ≤ 15)) (λ _. omega (arith, s.inv.threads r)) (λ _. s.bounds.seen t q))
+                (s.bounds.words t) (λ _. since) s.bounds;
           }
 
       pub state_written : Steady (written_by t r c)
@@ -208,7 +220,9 @@ module _ (c : State) (t : ℕ) (below : t < 16) where
           record {
             inv = inv_take_write f g t r below act free s.inv;
             left = left_put g t d s.left (still d refl);
-            bounds = bounds_put c _ t d refl (most (size (put (g t).reads r None)) (size (g t).reads) n k) (s.bounds.words t) (λ _. since) s.bounds;
+            bounds = bounds_put c _ t d refl (most (size (put (g t).reads r None)) (size (g t).reads) n k)
+                (λ q. put_at (g t).reads r q None (Each (λ e. e.thread ≤ 15)) (λ _. tt) (λ _. s.bounds.seen t q))
+                (s.bounds.words t) (λ _. since) s.bounds;
           }
 
   -- one more word is written back, perhaps the last
@@ -217,7 +231,7 @@ module _ (c : State) (t : ℕ) (below : t < 16) where
     d₁ = with_written_back ((g t).written_back + 1) (g t)
 
     bounds_backed : Bounds (backed_by t c)
-    bounds_backed = bounds_put c f t d₁ refl (s.bounds.sizes t) (s.bounds.words t) (s.bounds.begun t) s.bounds
+    bounds_backed = bounds_put c f t d₁ refl (s.bounds.sizes t) (s.bounds.seen t) (s.bounds.words t) (s.bounds.begun t) s.bounds
 
     pub state_backed : (g t).written_back + 1 < length (g t).writes → Steady (backed_by t c)
     state_backed l =
@@ -240,11 +254,10 @@ state_new =
             snaps = λ _ _. tt;
             shape =
                 λ _. record {
-                  idle_reads = λ _ _. refl;
-                  idle_writes = λ _. refl;
+                  bare = λ _. refl;
                   committed_reads = λ _ _. refl;
                   beyond = λ _ _. refl;
-                  active_written = λ _. refl;
+                  unwritten = λ _. refl;
                   few = omega arith;
                   distinct = tt;
                 };
@@ -256,5 +269,5 @@ state_new =
       left = λ _ e. absurd (false≢true (ap is_committed e));
       bounds =
           record
-          { versions = λ _. omega arith; sizes = λ _. size_none (λ r. None) (λ _. refl); words = λ _. tt; begun = λ _ n. absurd (n refl); sum = refl };
+          { versions = λ _. omega arith; sizes = λ _. size_none (λ r. None) (λ _. refl); seen = λ _ _. tt; words = λ _. tt; begun = λ _ n. absurd (n refl); sum = refl };
     }

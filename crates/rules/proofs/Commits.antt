@@ -1,20 +1,18 @@
 -- The outcomes tell which transactions are committed, by the ways that a call can end.
-use Rattle.std.proofs.Common.{◌≡◌, ℕ, ◌+◌, ◌-◌, ◌<◌, Bool, true, false, cond, ltb, List, [], length, None, Ok, Err, Result, unwrap_or, sym, refl, ap, ◌∙◌, arith}
+use Rattle.std.proofs.Common.{◌≡◌, ℕ, ◌+◌, ◌-◌, ◌<◌, Bool, true, false, cond, ltb, List, [], length, None, Ok, Err, Result, sym, refl, ap, ◌∙◌, arith}
 use Rattle.std.proofs.lemmas.Bool.{cond_both, lt-ltb}
 use Rattle.stock.specs.Access.{writing_access}
-use Rattle.stock.specs.Arithmetic.{computed}
-use Rattle.stock.specs.Kind.{kind_of}
+use Rattle.meaning.specs.Meaning.{answer}
 use Rattle.stock.specs.declared.access.Access.{Access}
 use Rattle.stock.specs.declared.fault.StockFault.{StockFault}
 use Rattle.decline.specs.declared.Decline.{Decline}
 use Rattle.meaning.specs.Store.{put}
 use Rattle.rules.specs.declared.descriptor.Status.TheVariants.{Aborted}
 use Rattle.rules.specs.Accessing.{answered, performed, seen}
-use Rattle.rules.specs.Changes.{aborted_by, ended_by, read_by, written_by}
-use Rattle.rules.specs.Parts.{kept, newly_begun}
+use Rattle.rules.specs.Changes.{aborted_by, ended_by, kept, newly_begun, read_by, written_by}
 use Rattle.rules.specs.Contention.{acquired, takes, waits_for}
 use Rattle.rules.specs.Course.{told}
-use Rattle.rules.specs.Machine.{Machine, drafted, on}
+use Rattle.rules.specs.Machine.{Machine, on, with_redo}
 use Rattle.rules.specs.Next.{next}
 use Rattle.rules.specs.Outcome.{Outcome, declined}
 use Rattle.rules.specs.Policy.{Policy}
@@ -56,11 +54,11 @@ module _ {V : Type 0} (P : Policy V) (m : Machine V) (st : Steady m.state) (w : 
       put_at c.descriptors t s d (λ x. is_committed x.status ≡ w s) (λ j. ap is_committed e ∙ k t ∙ ap w (sym j)) (λ _. k s)
 
   performed_same : (t : ℕ) (a : Access V) (m' : Machine V) → Same m'.state → Agrees (access t a) (performed P t a m')
-  performed_same t a m' k = by (computed P.arithmetic (kind_of a.kind) (unwrap_or (seen t m' a.word) a.value) a.value)
+  performed_same t a m' k = by (answer P.arithmetic (seen t m') a)
     where
       by : (x : Result V StockFault) → Agrees (access t a) (answered t a.word (writing_access a) x m')
       by (Ok v) =
-          cond_both (writing_access a) (drafted t a.word v m') m' (λ n. Same n.state) (λ _. same_part t m'.state _ refl k) (λ _. k)
+          cond_both (writing_access a) (with_redo t a.word v m') m' (λ n. Same n.state) (λ _. same_part t m'.state _ refl k) (λ _. k)
       by (Err e) = k
 
   acquired_same :

@@ -1,17 +1,17 @@
--- A transaction commits or ends.
+-- A transaction that commits or ends leaves a good memory.
 use Rattle.std.proofs.Common.{◌≡◌, ℕ, ◌+◌, ◌*◌, ◌<◌, Bool, true, false, leb, is_some, sym, refl, ap, ◌∙◌, ⊎_elim, arith}
 use Rattle.meaning.specs.Store.{put}
 use Rattle.policy.specs.declared.orec.OwnershipRecord.{OwnershipRecord}
 use Rattle.rules.proofs.Machines.{finish, keep}
-use Rattle.rules.specs.Parts.{kept}
+use Rattle.rules.specs.Changes.{kept}
 use Rattle.rules.specs.Ledger.{Ledger}
 use Rattle.rules.specs.Logical.{logical, pends}
 use Rattle.rules.specs.Machine.{Machine}
 use Rattle.rules.specs.Policy.{Policy}
-use Rattle.rules.specs.ReadSet.{matches}
+use Rattle.rules.specs.ReadSet.{pair, valid_snapshot}
 use Rattle.rules.specs.Release.{lowered}
 use Rattle.rules.specs.Replay.{Answered, replayed}
-use Rattle.rules.specs.Sound.{gone, pair}
+use Rattle.rules.specs.Sound.{gone}
 use Rattle.rules.specs.State.{Descriptor, idle, owns_to_write}
 use Rattle.rules.specs.Tests.{is_active, is_committed, is_read}
 use Rattle.rules.specs.WriteSet.{has, place}
@@ -21,7 +21,7 @@ use Rattle.std.proofs.lemmas.Bool.{and_from, and_parts, and_right, cases_Bool, c
 use Rattle.std.specs.List.{AllByRecursion}
 use Rattle.rules.proofs.Basics.{put_other, put_same}
 use Rattle.rules.proofs.Frame.{replayed_frame}
-use Rattle.rules.proofs.Inv.{Inv, Wrote}
+use Rattle.rules.proofs.Inv.{Inv, Wrote, active_unwritten}
 use Rattle.rules.proofs.Logicals.{one_logical, pends_not}
 use Rattle.rules.proofs.Moves.{pends_none}
 use Rattle.rules.proofs.Release.{Released, gave_up, given_up, inv_release, leaves_idle, leaves_kept, owned_is, wrote_release}
@@ -51,8 +51,8 @@ module _ {V : Type 0} (P : Policy V) (m : Machine V) (l : Ledger V) (good : Good
     turn_release =
         record {
           desc_other = λ s n. put_other g t s d n;
-          match_was =
-              λ r e _. gave_up w t (g t) r (f r) (λ o. matches o e ≡ true → matches (f r) e ≡ true)
+          valid_was =
+              λ r e _. gave_up w t (g t) r (f r) (λ o. valid_snapshot o e ≡ true → valid_snapshot (f r) e ≡ true)
               (λ _ _ _ _ h. absurd (false≢true h))
               (λ _ u h. and_from (is_read (f r).mode) (pair (f r) e) u (and_parts (is_read (lowered (f r)).mode) (pair (f r) e) h).1)
               (λ _ _ h. h);
@@ -117,7 +117,7 @@ module _ {V : Type 0} (P : Policy V) (m : Machine V) (l : Ledger V) (good : Good
         one_logical m₃ b 16 t below
         (ap (λ d. pends d b) (put_same g t d₃)
         ∙ and_from (leb (g t).written_back (place b (g t).writes)) (has b (g t).writes)
-        (le-leb (g t).written_back (place b (g t).writes) (omega (arith, (good.inv.shape t).active_written act))) h)
+        (le-leb (g t).written_back (place b (g t).writes) (omega (arith, active_unwritten (g t) (good.inv.shape t) act))) h)
         (λ s _ n. ap (λ d. pends d b) (put_other g t s d₃ n) ∙ pends_not P.rules.orec_of f g good.wrote s b (λ _ e. n (sym e ∙ w.1)))
         ∙ ap (λ d. m.redo (t * 32 + place b d.writes)) (put_same g t d₃)
         ∙ sym (cond-true (has b (g t).writes) _ _ h))

@@ -1,4 +1,4 @@
--- Steps on two stores that agree on some words, all those of the steps among them.
+-- Accesses run again on two stores that agree on some words, all those of the accesses among them.
 use Rattle.std.proofs.Common.{◌≡◌, ℕ, Bool, true, false, cond, List, [], ◌∷◌, ◌++◌, Some, Ok, Err, Result, unwrap_or, sym, refl, ap, ◌∙◌, subst, ⊎_elim}
 use Rattle.meaning.specs.Meaning.{answer, after}
 use Rattle.meaning.specs.Store.{Store, put}

@@ -1,5 +1,5 @@
 -- A granted hardware transaction: it runs on the words as on the ledger's figures, and leaves the logical values that the ledger has.
-use Rattle.std.proofs.Common.{◌≡◌, ℕ, zero, suc, ◌+◌, ◌<◌, Bool, true, false, not, List, [], ◌∷◌, is_some, Ok, Err, Result, sym, refl, ap, ◌∙◌, subst, ⊎_elim, arith}
+use Rattle.std.proofs.Common.{◌≡◌, ℕ, zero, suc, ◌+◌, ◌<◌, Bool, true, false, not, List, [], ◌∷◌, is_some, Ok, Err, Result, sym, refl, ap, ◌∙◌, subst, ⊎_elim, arith, ◌≤◌}
 use Rattle.std.proofs.ByRecursion.{All-weaker}
 use Rattle.std.proofs.lemmas.Bool.{cases_Bool, cond-false, cond-true, false≢true, or_cases, true≢false}
 use Rattle.std.specs.List.{AllByRecursion}
@@ -20,15 +20,20 @@ use Rattle.rules.specs.Logical.{logical, pends}
 use Rattle.rules.specs.Machine.{Machine, with_words}
 use Rattle.rules.specs.Policy.{Laws, Policy}
 use Rattle.rules.specs.State.{Descriptor, owns_to_write, under_way}
-use Rattle.rules.specs.Tests.{is_active, is_free, is_read, is_write}
+use Rattle.rules.specs.Tests.{is_active, is_read, is_write, is_idle}
 use Rattle.rules.proofs.Frame.{after_apart, after_frame, answer_frame}
 use Rattle.rules.proofs.Logicals.{none_logical, pends_not, same_logical}
 use Rattle.rules.proofs.Moves.{turn_desc}
 use Rattle.rules.proofs.Parts.{under_way_none}
 use Rattle.rules.proofs.Release.{owned_is}
 use Rattle.rules.proofs.Replaying.{touched}
-use Rattle.rules.proofs.Sets.{valid_reads}
+use Rattle.rules.proofs.Sets.{tally_most, valid_reads}
 use Rattle.rules.proofs.Turn.{Good, Valid, good_turn}
+
+abbrev is_free : Mode → Bool
+is_free Free = true
+is_free Read = false
+is_free Write = false
 
 module _ {V : Type 0} (P : Policy V) where
   abbrev Alike : (ℕ → Bool) → Meaning V → Meaning V → Type 0
@@ -76,16 +81,16 @@ module _ {V : Type 0} (P : Policy V) where
       kept v = after_apart P.arithmetic K F o v b w.0 n
 
   module _ (laws : Laws P.rules) where
-    gate_mode : (x : Mode) (n : ℕ) (w : Bool) → (n ≡ 0 → x ≡ Free) → P.rules.gate x n w ≡ true → is_write x ≡ false
-    gate_mode Free n w q h = refl
-    gate_mode Read n w q h = refl
-    gate_mode Write zero w q h = ap is_write (q refl)
-    gate_mode Write (suc n) true q h = ap is_write (laws.gate_write Write (suc n) (omega arith) h)
-    gate_mode Write (suc n) false q h = absurd (laws.gate_look Write (suc n) (omega arith) h refl)
+    gate_mode : (x : Mode) (n : ℕ) (w : Bool) → n ≤ 16 → (n ≡ 0 → x ≡ Free) → P.rules.gate x n w ≡ true → is_write x ≡ false
+    gate_mode Free n w l q h = refl
+    gate_mode Read n w l q h = refl
+    gate_mode Write zero w l q h = ap is_write (q refl)
+    gate_mode Write (suc n) true l q h = ap is_write (laws.gate_write Write (suc n) (omega arith) l h)
+    gate_mode Write (suc n) false l q h = absurd (laws.gate_look Write (suc n) (omega arith) l h refl)
 
-    gate_free : (x : Mode) (n : ℕ) → (n ≡ 0 → x ≡ Free) → P.rules.gate x n true ≡ true → is_free x ≡ true
-    gate_free x zero q h = ap is_free (q refl)
-    gate_free x (suc n) q h = ap is_free (laws.gate_write x (suc n) (omega arith) h)
+    gate_free : (x : Mode) (n : ℕ) → n ≤ 16 → (n ≡ 0 → x ≡ Free) → P.rules.gate x n true ≡ true → is_free x ≡ true
+    gate_free x zero l q h = ap is_free (q refl)
+    gate_free x (suc n) l q h = ap is_free (laws.gate_write x (suc n) (omega arith) l h)
 
     abbrev lets : Machine V → Access V → Type 0
     lets m o = P.rules.gate (m.state.orecs (P.rules.orec_of o.word)).mode (under_way m.state) (writing_access o) ≡ true
@@ -120,15 +125,18 @@ module _ {V : Type 0} (P : Policy V) where
       free_alone : (r : ℕ) → under_way m.state ≡ 0 → (f r).mode ≡ Free
       free_alone r e = under_way_none m.state good.inv e r
 
+      few : under_way m.state ≤ 16
+      few = tally_most (λ s. not (is_idle (g s).status)) 16
+
       words_in : AllByRecursion (λ o. H o.word ≡ true) os
       words_in =
           All-weaker (lets m) (λ o. H o.word ≡ true)
-          (λ o h. ap not (gate_mode (f (P.rules.orec_of o.word)).mode (under_way m.state) (writing_access o) (free_alone (P.rules.orec_of o.word)) h)) os (gated_all m os 0 passed)
+          (λ o h. ap not (gate_mode (f (P.rules.orec_of o.word)).mode (under_way m.state) (writing_access o) few (free_alone (P.rules.orec_of o.word)) h)) os (gated_all m os 0 passed)
 
       writes_in : AllByRecursion (λ o. writing_access o ≡ true → K o.word ≡ true) os
       writes_in =
           All-weaker (lets m) (λ o. writing_access o ≡ true → K o.word ≡ true)
-          (λ o h z. gate_free (f (P.rules.orec_of o.word)).mode (under_way m.state) (free_alone (P.rules.orec_of o.word))
+          (λ o h z. gate_free (f (P.rules.orec_of o.word)).mode (under_way m.state) few (free_alone (P.rules.orec_of o.word))
           (subst (λ x. P.rules.gate (f (P.rules.orec_of o.word)).mode (under_way m.state) x ≡ true) z h))
           os (gated_all m os 0 passed)
 

@@ -1,16 +1,17 @@
 -- What every reachable memory keeps, of its ownership records f and its descriptors g.
-use Rattle.std.proofs.Common.{◌≡◌, ℕ, zero, suc, ◌<◌, ◌≤◌, Bool, true, false, cond, [], length, Some, None, Option, sym, refl, ap, ◌∙◌, subst, arith}
+use Rattle.std.proofs.Common.{◌≡◌, ℕ, zero, suc, ◌<◌, ◌≤◌, Bool, true, false, cond, length, Some, None, Option, sym, refl, ap, ◌∙◌, subst, arith}
 use Rattle.meaning.specs.Store.{put}
 use Rattle.policy.specs.declared.orec.Mode.TheVariants.{Read, Write}
 use Rattle.policy.specs.declared.orec.OwnershipRecord.{OwnershipRecord}
 use Rattle.rules.specs.ReadSet.{reads_it}
 use Rattle.rules.specs.Sound.{Dead, Distinct, Each, Owned, Snap, gone, readers_of}
-use Rattle.rules.specs.State.{Descriptor}
+use Rattle.rules.specs.State.{Descriptor, idle}
 use Rattle.rules.specs.Tables.{tally}
-use Rattle.rules.specs.Tests.{is_read}
+use Rattle.rules.specs.Tests.{is_committed, is_read}
 use Rattle.rules.specs.WriteSet.{has}
 use Rattle.rules.specs.declared.descriptor.Seen.{Seen}
 use Rattle.rules.specs.declared.descriptor.Status.TheVariants.{Active, Committed, Idle}
+use Rattle.std.proofs.lemmas.Bool.{false≢true}
 use Rattle.rules.proofs.Basics.{put_at}
 
 pub each_weaker : (P Q : Seen → Type 0) → ((e : Seen) → P e → Q e) → (x : Option Seen) → Each P x → Each Q x
@@ -18,13 +19,18 @@ each_weaker P Q k None a = tt
 each_weaker P Q k (Some e) a = k e a
 
 pub record Shape (d : Descriptor) : Type 0 where
-  pub idle_reads : d.status ≡ Idle → (r : ℕ) → d.reads r ≡ None
-  pub idle_writes : d.status ≡ Idle → d.writes ≡ []
+  pub bare : d.status ≡ Idle → d ≡ idle d.version
   pub committed_reads : d.status ≡ Committed → (r : ℕ) → d.reads r ≡ None
   pub beyond : (r : ℕ) → 64 ≤ r → d.reads r ≡ None
-  pub active_written : d.status ≡ Active → d.written_back ≡ 0
+  pub unwritten : (d.status ≡ Committed → ⊥) → d.written_back ≡ 0
   pub few : length d.writes ≤ 32
   pub distinct : Distinct d.writes
+
+pub idle_reads : (d : Descriptor) → Shape d → d.status ≡ Idle → (r : ℕ) → d.reads r ≡ None
+idle_reads d s e r = ap (λ x. x.reads r) (s.bare e)
+
+pub active_unwritten : (d : Descriptor) → Shape d → d.status ≡ Active → d.written_back ≡ 0
+active_unwritten d s a = s.unwritten (λ e. false≢true (ap is_committed (sym a ∙ e)))
 
 pub record Inv (f : ℕ → OwnershipRecord) (g : ℕ → Descriptor) : Type 0 where
   pub owns : (r : ℕ) → (f r).mode ≡ Write → Owned g (f r)

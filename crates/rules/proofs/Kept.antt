@@ -1,9 +1,8 @@
 -- Every request keeps a sound state, by the ways that a call can end and the elementary changes of Bounds; with what Parts says of a sound state this is the theorem.
-use Rattle.std.proofs.Common.{◌≡◌, ℕ, ◌<◌, Bool, true, false, cond, not, ◌&&◌, leb, List, [], length, is_some, None, Ok, Err, Result, unwrap_or, sym, refl, ap, ◌∙◌, subst, ⊎_elim, arith}
+use Rattle.std.proofs.Common.{◌≡◌, ℕ, ◌<◌, Bool, true, false, cond, not, ◌&&◌, leb, List, [], length, is_some, None, Ok, Err, Result, sym, refl, ap, ◌∙◌, subst, ⊎_elim, arith}
 use Rattle.std.proofs.lemmas.Bool.{and_cases, cond_both, cond-false, cond-true, leb-false}
 use Rattle.stock.specs.Access.{writing_access}
-use Rattle.stock.specs.Arithmetic.{computed}
-use Rattle.stock.specs.Kind.{kind_of}
+use Rattle.meaning.specs.Meaning.{answer}
 use Rattle.stock.specs.declared.access.Access.{Access}
 use Rattle.stock.specs.declared.fault.StockFault.{StockFault}
 use Rattle.decline.specs.declared.Decline.{Decline}
@@ -13,7 +12,7 @@ use Rattle.rules.specs.declared.descriptor.Status.TheVariants.{Aborted, Active}
 use Rattle.rules.specs.Accessing.{answered, performed, seen}
 use Rattle.rules.specs.Changes.{aborted_by, ended_by, read_by, written_by}
 use Rattle.rules.specs.Contention.{acquired, takes, waits_for}
-use Rattle.rules.specs.Machine.{Machine, drafted, on}
+use Rattle.rules.specs.Machine.{Machine, on, with_redo}
 use Rattle.rules.specs.Next.{next}
 use Rattle.rules.specs.Outcome.{Outcome, declined}
 use Rattle.rules.specs.Policy.{Laws, Policy}
@@ -25,7 +24,7 @@ use Rattle.rules.specs.Tests.{is_committed}
 use Rattle.rules.specs.WriteSet.{has}
 use Rattle.rules.proofs.Basics.{never, put_other, put_same}
 use Rattle.rules.proofs.Bounds.{Steady, state_aborted, state_backed, state_begun, state_ended, state_kept, state_last, state_listed, state_new, state_read, state_written}
-use Rattle.rules.proofs.Parts.{all_free, sound_from, state_from}
+use Rattle.rules.proofs.Parts.{sound_from, state_from, under_way_none}
 use Rattle.rules.proofs.Ways.{Admitted, Plain, access_ways, another, back_ways, begin_ways, cancel_ways, cleared_ways, commit_ways, hardware_ways, unread}
 
 -- an admitted access that writes has room for its word, and one that takes an orec to read has room for a snapshot
@@ -83,11 +82,11 @@ module _ {V : Type 0} (P : Policy V) (laws : Laws P.rules) (m : Machine V) (st :
         (wr ≡ true → has a.word (m'.state.descriptors t).writes ≡ false → length (m'.state.descriptors t).writes < 32) →
         Fine (performed P t a m')
     performed_sound m' s act room =
-        by (computed P.arithmetic (kind_of a.kind) (unwrap_or (seen t m' a.word) a.value) a.value)
+        by (answer P.arithmetic (seen t m') a)
       where
         by : (x : Result V StockFault) → Fine (answered t a.word wr x m')
         by (Ok v) =
-            cond_both wr (drafted t a.word v m') m' (λ n. Steady n.state)
+            cond_both wr (with_redo t a.word v m') m' (λ n. Steady n.state)
             (λ e. state_listed m'.state t below act s a.word ad.word (room e)) (λ _. s)
         by (Err e) = s
 
@@ -143,5 +142,5 @@ state_sound V =
     record {
       new_sound = sound_from new_state state_new;
       kept_sound = λ P laws m c s. sound_from (next P m c).1.state (next_sound P laws m (state_from m.state s) c);
-      quiet_free = λ c s. all_free c.orecs c.descriptors (state_from c s).inv;
+      quiet_free = λ c s. under_way_none c (state_from c s).inv;
     }

@@ -6,6 +6,7 @@ pub mod Bounds
 pub mod Calls
 pub mod Commits
 pub mod Ends
+pub mod Formed
 pub mod Frame
 pub mod Hard
 pub mod Holds

@@ -1,4 +1,4 @@
--- Logical values.
+-- Logical values, by who has the word still to write back.
 use Rattle.std.proofs.Common.{◌≡◌, ℕ, zero, suc, ◌+◌, ◌*◌, ◌<◌, true, false, ◌&&◌, leb, sym, refl, ap, ◌∙◌, subst, ⊎_elim, arith}
 use Rattle.policy.specs.declared.orec.Mode.TheVariants.{Write}
 use Rattle.policy.specs.declared.orec.OwnershipRecord.{OwnershipRecord}

@@ -1,17 +1,18 @@
 -- What the two numbers of `masks` say, by recursion on their bits; and the readers of a sound state by them.
-use Rattle.std.proofs.Common.{◌≡◌, ℕ, zero, suc, ◌+◌, ◌*◌, ◌/◌, ◌%◌, ◌^◌, ◌<◌, Bool, true, false, ◌&&◌, eqb, Some, None, Option, sym, refl, ap, ◌∙◌, ⊎_elim, pow-suc, arith}
+use Rattle.std.proofs.Common.{◌≡◌, ℕ, zero, suc, ◌+◌, ◌*◌, ◌/◌, ◌%◌, ◌^◌, ◌<◌, Bool, true, false, ◌&&◌, eqb, Some, None, Option, sym, refl, ap, ◌∙◌, ⊎_elim, pow-suc, arith, ◌≤◌, ltb, Ok}
 use lib.Count.{ones, ones_cat, ones_in}
 use Rattle.meaning.specs.Undo.{one}
 use Rattle.policy.specs.declared.orec.Mode.TheVariants.{Read}
 use Rattle.policy.specs.declared.orec.OwnershipRecord.{OwnershipRecord}
-use Rattle.std.proofs.lemmas.Bool.{false≢true}
+use Rattle.std.proofs.lemmas.Bool.{cond-false, cond-true, false≢true, le-ltb, lt-ltb}
 use Rattle.rules.specs.declared.descriptor.Seen.{Seen}
-use Rattle.rules.specs.ReadSet.{reads_it}
-use Rattle.rules.specs.Sound.{pair}
+use Rattle.rules.specs.ReadSet.{pair, reads_it}
 use Rattle.rules.specs.Ownership.{bit, mask_of, masks, reading, writing}
-use Rattle.rules.specs.Shown.{OwnershipShown, ReadersShown}
+use Rattle.rules.specs.Shown.{OwnershipShown, ReadersShown, Shown}
+use Rattle.rules.specs.State.{State}
 use Rattle.rules.specs.Tables.{tally}
 use Rattle.rules.specs.Tests.{is_read}
+use Rattle.rules.proofs.Formed.{formed_unread}
 use Rattle.rules.proofs.Inv.{tally_same}
 use Rattle.rules.proofs.Take.{mode_read}
 use Rattle.rules.proofs.Sets.{one_le, tally_none}
@@ -62,16 +63,26 @@ mask_beyond h (suc n) zero e = omega arith
 mask_beyond h (suc n) (suc r) e =
     omega (arith, mask_beyond (λ r. h (suc r)) n r (sym (ap (bit r) (half (mask_of (λ r. h (suc r)) n) (h 0))) ∙ e))
 
-pub ownership_shown : OwnershipShown
-ownership_shown c t =
+shown : (c : State) (t : ℕ) → t < 16 → Shown c t (masks c t).0 (masks c t).1
+shown c t l =
+    let known = le-ltb 15 t (omega (arith, l)) in
     record {
+      answered = cond-false (ltb 15 t) _ _ known;
       reads_shown = mask_bit (reading c t) 64;
       writes_shown = mask_bit (writing c t) 64;
       reads_fit = mask_lt (reading c t) 64;
       writes_fit = mask_lt (writing c t) 64;
       count_shown =
-          ap (λ n. n + ones (mask_of (writing c t) 64)) (mask_ones (reading c t) 64)
-          ∙ ap (λ n. tally (reading c t) 64 + n) (mask_ones (writing c t) 64);
+          cond-false (ltb 15 t) _ _ known
+          ∙ ap (λ n. Ok (n + ones (mask_of (writing c t) 64))) (mask_ones (reading c t) 64)
+          ∙ ap (λ n. Ok (tally (reading c t) 64 + n)) (mask_ones (writing c t) 64);
+    }
+
+pub ownership_shown : OwnershipShown
+ownership_shown =
+    record {
+      known = λ c t l. ((masks c t).0, (masks c t).1, shown c t l);
+      unknown = λ c t l. let e = lt-ltb 15 t l in (cond-true (ltb 15 t) _ _ e, cond-true (ltb 15 t) _ _ e);
     }
 
 pub readers_shown : ReadersShown
@@ -79,6 +90,6 @@ readers_shown c s r l =
     ⊎_elim
     (λ (e : (c.orecs r).mode ≡ Read). s.readers r e)
     (λ (e : is_read (c.orecs r).mode ≡ false).
-    (s.orecs r).unread e ∙ sym (tally_none (λ t. reading c t r) 16 (λ t _. held_unread (c.orecs r) ((c.descriptors t).reads r) e)))
+    formed_unread (c.orecs r) (s.orecs r) e ∙ sym (tally_none (λ t. reading c t r) 16 (λ t _. held_unread (c.orecs r) ((c.descriptors t).reads r) e)))
     (mode_read (c.orecs r).mode)
     ∙ tally_same (λ t. reading c t r) (λ t. bit r (masks c t).0) 16 (λ t _. sym (mask_bit (reading c t) 64 r l))

@@ -8,10 +8,10 @@ use Rattle.rules.specs.Ledger.{Ledger}
 use Rattle.rules.specs.Logical.{logical, pends}
 use Rattle.rules.specs.Machine.{Machine}
 use Rattle.rules.specs.Policy.{Policy}
-use Rattle.rules.specs.ReadSet.{matches, seen_of}
-use Rattle.rules.specs.Sound.{Snap, gone, pair}
+use Rattle.rules.specs.ReadSet.{pair, seen_of, valid_snapshot}
+use Rattle.rules.specs.Sound.{Snap, gone}
 use Rattle.rules.specs.State.{Descriptor, owns_to_write, with_reads, with_status}
-use Rattle.rules.specs.Parts.{exclusive, newly_begun, shared}
+use Rattle.rules.specs.Changes.{exclusive, newly_begun, shared}
 use Rattle.rules.specs.Tests.{is_active, is_committed, is_read}
 use Rattle.rules.specs.WriteSet.{has, place}
 use Rattle.rules.specs.declared.descriptor.Seen.{Seen}
@@ -36,7 +36,7 @@ module _ {V : Type 0} (P : Policy V) where
   turn_desc m m' t d r e =
       record {
         desc_other = d;
-        match_was = λ q x _ h. subst (λ o. matches o x ≡ true) (r q) h;
+        valid_was = λ q x _ h. subst (λ o. valid_snapshot o x ≡ true) (r q) h;
         owned_still = λ s q _ _ h. subst (λ o. owns_to_write s (m.state.descriptors s).version o ≡ true) (sym (r q)) h;
         redo_other = λ s j _ _. e (s * 32 + j);
       }
@@ -96,7 +96,7 @@ module _ {V : Type 0} (P : Policy V) where
       pub good_abort : Good P m₂ l
       good_abort =
           good_turn P m m₂ l l t good turn_abort
-          (inv_aborted f g t below good.inv)
+          (inv_aborted f g t below good.inv act)
           (wrote_put f g t d₂ P.rules.orec_of (λ b h. absurd (true≢false h)) good.wrote)
           (λ b. sym (same_abort b) ∙ good.figures b)
           (λ s n. refl)
@@ -132,16 +132,16 @@ module _ {V : Type 0} (P : Policy V) where
                 redo = m.redo;
               }
 
-          module _ (was : (e : Seen) → Snap f g r e → matches o e ≡ true → matches (f r) e ≡ true)
+          module _ (was : (e : Seen) → Snap f g r e → valid_snapshot o e ≡ true → valid_snapshot (f r) e ≡ true)
               (has_still : touched t d₃ r o ≡ true)
               (i : Inv (put f r o) (put g t d₃)) where
             turn₃ : Turn P m m₃ t
             turn₃ =
                 record {
                   desc_other = λ s n. put_other g t s d₃ n;
-                  match_was =
-                      λ q e sn. put_at f r q o (λ y. matches y e ≡ true → matches (f q) e ≡ true)
-                      (λ z h. subst (λ k. matches (f k) e ≡ true) (sym z) (was e (subst (λ k. Snap f g k e) z sn) h)) (λ _ h. h);
+                  valid_was =
+                      λ q e sn. put_at f r q o (λ y. valid_snapshot y e ≡ true → valid_snapshot (f q) e ≡ true)
+                      (λ z h. subst (λ k. valid_snapshot (f k) e ≡ true) (sym z) (was e (subst (λ k. Snap f g k e) z sn) h)) (λ _ h. h);
                   owned_still = λ s q _. owned_keeps o s q;
                   redo_other = λ _ _ _ _. refl;
                 }
@@ -175,7 +175,7 @@ module _ {V : Type 0} (P : Policy V) where
                 (λ _ _. record { touches = sure_take.touches; replays = λ _. sure_take.replays tt; views = λ _. sure_take.views tt })
 
         module _ (small : r < 64) (fresh : is_some ((g t).reads r) ≡ false) where
-          was_read : (e : Seen) → Snap f g r e → matches (shared (f r)) e ≡ true → matches (f r) e ≡ true
+          was_read : (e : Seen) → Snap f g r e → valid_snapshot (shared (f r)) e ≡ true → valid_snapshot (f r) e ≡ true
           was_read e sn h = and_from (is_read (f r).mode) (pair (f r) e) (ap is_read (sn.1 h)) h
 
           still_read : touched t (with_reads (put (g t).reads r (Some (seen_of (f r)))) (g t)) r (shared (f r)) ≡ true
@@ -190,7 +190,7 @@ module _ {V : Type 0} (P : Policy V) where
           pub sure_take_read : Follows P (Unit {0}) (take_read t r m) t (l.accesses t)
           sure_take_read = sure_take (shared (f r)) (Some (seen_of (f r))) was_read still_read inv_r
 
-        was_write : (e : Seen) → Snap f g r e → matches (exclusive t (g t).version) e ≡ true → matches (f r) e ≡ true
+        was_write : (e : Seen) → Snap f g r e → valid_snapshot (exclusive t (g t).version) e ≡ true → valid_snapshot (f r) e ≡ true
         was_write e sn h = absurd (false≢true h)
 
         still_write : touched t (with_reads (put (g t).reads r None) (g t)) r (exclusive t (g t).version) ≡ true

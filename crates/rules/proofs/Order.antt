@@ -1,9 +1,8 @@
 -- Who gives way to a request, and who is never told to wait, by the ways that a call can end.
-use Rattle.std.proofs.Common.{◌≡◌, ℕ, zero, suc, ◌+◌, ◌<◌, Bool, true, false, cond, ◌&&◌, ◌||◌, leb, List, [], get_or, Some, None, Ok, Err, Option, Result, unwrap_or, sym, refl, ap, ◌∙◌, subst, ⊎_elim, arith}
+use Rattle.std.proofs.Common.{◌≡◌, ℕ, zero, suc, ◌+◌, ◌<◌, Bool, true, false, cond, ◌&&◌, ◌||◌, leb, List, [], get_or, Some, None, Ok, Err, Option, Result, sym, refl, ap, ◌∙◌, subst, ⊎_elim, arith}
 use Rattle.std.proofs.lemmas.Bool.{and_cases, and_from, and_parts, both_ways, cases_eq, cond_both, cond-false, cond-true, false≢true, lt-leb, or_cases}
 use Rattle.stock.specs.Access.{writing_access}
-use Rattle.stock.specs.Arithmetic.{computed}
-use Rattle.stock.specs.Kind.{kind_of}
+use Rattle.meaning.specs.Meaning.{answer}
 use Rattle.stock.specs.declared.access.Access.{Access}
 use Rattle.stock.specs.declared.fault.StockFault.{StockFault}
 use Rattle.decline.specs.declared.Decline.{Decline}
@@ -15,10 +14,9 @@ use Rattle.policy.specs.declared.orec.OwnershipRecord.{OwnershipRecord}
 use Rattle.rules.specs.declared.descriptor.Seen.{Seen}
 use Rattle.rules.specs.declared.descriptor.Status.TheVariants.{Aborted, Active}
 use Rattle.rules.specs.Accessing.{answered, performed, seen}
-use Rattle.rules.specs.Changes.{begun_by, ended_by, kept_by, read_by, written_by}
-use Rattle.rules.specs.Parts.{exclusive, kept, newly_begun, shared}
+use Rattle.rules.specs.Changes.{begun_by, ended_by, kept_by, read_by, written_by, exclusive, kept, newly_begun, shared}
 use Rattle.rules.specs.Contention.{acquired, takes, waits_for}
-use Rattle.rules.specs.Machine.{Machine, copied, drafted, on}
+use Rattle.rules.specs.Machine.{Machine, copied, with_redo, on}
 use Rattle.rules.specs.Next.{next}
 use Rattle.rules.specs.Outcome.{Outcome, declined, returned}
 use Rattle.rules.specs.Outside.{ByPreceding, Foremost, Precedes}
@@ -156,9 +154,9 @@ module _ {V : Type 0} (P : Policy V) (laws : Laws P.rules) (m : Machine V) (st :
 
     -- an answer changes no more than t's write set and redo values
     just_performed : (m' : Machine V) → Calm c m' → Just c (performed P t a m')
-    just_performed m' k = by (computed P.arithmetic (kind_of a.kind) (unwrap_or (seen t m' a.word) a.value) a.value)
+    just_performed m' k = by (answer P.arithmetic (seen t m') a)
       where
-        drafts : (v : V) → Calm c (drafted t a.word v m')
+        drafts : (v : V) → Calm c (with_redo t a.word v m')
         drafts v = (
           (λ s e. put_at m'.state.descriptors t s _ (λ d. d.status ≡ Aborted → ByPreceding P m c s)
               (λ i h. k.0 s e (ap (λ z. (m'.state.descriptors z).status) i ∙ h)) (λ _ h. k.0 s e h)),
@@ -167,7 +165,7 @@ module _ {V : Type 0} (P : Policy V) (laws : Laws P.rules) (m : Machine V) (st :
         )
 
         by : (x : Result V StockFault) → Just c (answered t a.word w x m')
-        by (Ok v) = (cond_both w (drafted t a.word v m') m' (Calm c) (λ _. drafts v) (λ _. k), λ _ _ e. omega (arith, e))
+        by (Ok v) = (cond_both w (with_redo t a.word v m') m' (Calm c) (λ _. drafts v) (λ _. k), λ _ _ e. omega (arith, e))
         by (Err e) = (k, λ _ _ e. omega (arith, e))
 
     module _ (lacks : takes w t (g t) r (f r) ≡ true) where

@@ -10,7 +10,8 @@ use Rattle.rules.specs.Sound.{SoundState, readers_of}
 use Rattle.rules.specs.State.{Descriptor, State, under_way}
 use Rattle.rules.specs.Tests.{is_idle, is_read}
 use Rattle.rules.proofs.Bounds.{Steady}
-use Rattle.rules.proofs.Inv.{Inv}
+use Rattle.rules.proofs.Formed.{formed, formed_read, formed_thread, formed_unread}
+use Rattle.rules.proofs.Inv.{Inv, idle_reads}
 use Rattle.rules.proofs.Take.{mode_read, mode_write}
 use Rattle.rules.proofs.Modes.{idle_from}
 use Rattle.rules.proofs.Sets.{tally_most, tally_none, tally_zero}
@@ -23,32 +24,28 @@ sound_from c s =
     let i = s.inv in
     record {
       orecs =
-          λ r. record {
-            unread = λ e. i.counts r ∙ cond-false (is_read (f r).mode) (readers_of f g r) 0 e;
-            read =
-                λ e. (
-                  i.busy r e,
-                  omega (
-                    arith,
-                    i.counts r ∙ cond-true (is_read (f r).mode) (readers_of f g r) 0 (ap is_read e),
-                    tally_most (λ t. reads_it (f r) ((g t).reads r)) 16,
-                  ),
-                );
-            thread_bound = omega (arith, i.threads r);
-            version_bound = version r;
-          };
+          λ r. formed (f r) (λ e. i.counts r ∙ cond-false (is_read (f r).mode) (readers_of f g r) 0 e)
+          (λ e. (
+            i.busy r e,
+            omega (
+              arith,
+              i.counts r ∙ cond-true (is_read (f r).mode) (readers_of f g r) 0 (ap is_read e),
+              tally_most (λ t. reads_it (f r) ((g t).reads r)) 16,
+            ),
+          ))
+          (omega (arith, i.threads r)) (version r);
       descriptors =
           λ t. let h = i.shape t in
           record {
             version_bound = s.bounds.versions t;
             reads_few = s.bounds.sizes t;
             reads_bound = h.beyond;
+            reads_threads = s.bounds.seen t;
             writes_few = h.few;
             writes_bound = s.bounds.words t;
             writes_distinct = h.distinct;
-            idle_reads = h.idle_reads;
-            idle_writes = h.idle_writes;
-            active_written = h.active_written;
+            bare = h.bare;
+            unwritten = h.unwritten;
             committed_reads = h.committed_reads;
             committed_left = s.left t;
           };
@@ -81,21 +78,20 @@ state_from c s =
             shape =
                 λ t. let d = s.descriptors t in
                 record {
-                  idle_reads = d.idle_reads;
-                  idle_writes = d.idle_writes;
+                  bare = d.bare;
                   committed_reads = d.committed_reads;
                   beyond = d.reads_bound;
-                  active_written = d.active_written;
+                  unwritten = d.unwritten;
                   few = d.writes_few;
                   distinct = d.writes_distinct;
                 };
             outside = s.outside;
-            busy = λ r e. ((s.orecs r).read e).0;
-            threads = λ r. omega (arith, (s.orecs r).thread_bound);
+            busy = λ r e. (formed_read (f r) (s.orecs r) e).0;
+            threads = λ r. omega (arith, formed_thread (f r) (s.orecs r));
             counts =
                 λ r. ⊎_elim
                 (λ e. s.readers r e ∙ sym (cond-true (is_read (f r).mode) (readers_of f g r) 0 (ap is_read e)))
-                (λ e. (s.orecs r).unread e ∙ sym (cond-false (is_read (f r).mode) (readers_of f g r) 0 e))
+                (λ e. formed_unread (f r) (s.orecs r) e ∙ sym (cond-false (is_read (f r).mode) (readers_of f g r) 0 e))
                 (mode_read (f r).mode);
           };
       left = λ t. (s.descriptors t).committed_left;
@@ -103,6 +99,7 @@ state_from c s =
           record {
             versions = λ t. (s.descriptors t).version_bound;
             sizes = λ t. (s.descriptors t).reads_few;
+            seen = λ t. (s.descriptors t).reads_threads;
             words = λ t. (s.descriptors t).writes_bound;
             begun = s.priorities;
             sum = s.begins;
@@ -114,7 +111,7 @@ pub all_free : (f : ℕ → OwnershipRecord) (g : ℕ → Descriptor) → Inv f 
 all_free f g i idl r = by (f r).mode refl
   where
     none : (t : ℕ) → t < 16 → reads_it (f r) ((g t).reads r) ≡ false
-    none t l = ap (reads_it (f r)) ((i.shape t).idle_reads (idl t l) r)
+    none t l = ap (reads_it (f r)) (idle_reads (g t) (i.shape t) (idl t l) r)
 
     by : (m : Mode) → (f r).mode ≡ m → m ≡ Free
     by Free e = refl

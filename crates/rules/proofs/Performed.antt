@@ -1,17 +1,16 @@
 -- An access that no check declines is answered rightly, on the orec that it has or that it takes first.
-use Rattle.std.proofs.Common.{◌≡◌, ℕ, ◌<◌, true, false, cond, ◌⊎◌, [], ◌∷◌, ◌++◌, length, is_some, Some, None, Ok, Err, Result, unwrap_or, sym, refl, ap, ◌∙◌, subst, inl, inr, ⊎_elim}
+use Rattle.std.proofs.Common.{◌≡◌, ℕ, ◌<◌, true, false, cond, ◌⊎◌, [], ◌∷◌, ◌++◌, length, is_some, Some, None, Ok, Err, Result, sym, refl, ap, ◌∙◌, subst, inl, inr, ⊎_elim}
 use Rattle.meaning.specs.Meaning.{answer}
 use Rattle.meaning.specs.Store.{Store, put}
 use Rattle.policy.specs.declared.orec.Mode.TheVariants.{Write}
 use Rattle.policy.specs.declared.orec.OwnershipRecord.{OwnershipRecord}
 use Rattle.rules.proofs.Machines.{take_read, take_write}
 use Rattle.rules.specs.Accessing.{answered, performed, seen}
-use Rattle.rules.specs.Changes.{read_by, written_by}
-use Rattle.rules.specs.Parts.{exclusive, shared}
+use Rattle.rules.specs.Changes.{exclusive, read_by, shared, written_by}
 use Rattle.rules.specs.ReadSet.{seen_of}
 use Rattle.rules.specs.Ledger.{Ledger, feed}
 use Rattle.rules.specs.Logical.{logical}
-use Rattle.rules.specs.Machine.{Machine, on, drafted}
+use Rattle.rules.specs.Machine.{Machine, on, with_redo}
 use Rattle.rules.specs.Outcome.{Outcome, accessed}
 use Rattle.rules.specs.Policy.{Policy}
 use Rattle.rules.specs.Replay.{Replays, effect, stored}
@@ -23,11 +22,9 @@ use Rattle.rules.specs.WriteSet.{has}
 use Rattle.rules.specs.declared.descriptor.Status.TheVariants.{Active}
 use Rattle.std.proofs.lemmas.Bool.{cond-false, cond_both, false≢true, or_left, or_right}
 use Rattle.stock.specs.Access.{writing_access}
-use Rattle.stock.specs.Arithmetic.{computed}
-use Rattle.stock.specs.Kind.{kind_of}
 use Rattle.stock.specs.declared.access.Access.{Access}
 use Rattle.stock.specs.declared.fault.StockFault.{StockFault}
-use Rattle.rules.proofs.Acts.{good_draft, good_note, sure_draft, sure_note}
+use Rattle.rules.proofs.Acts.{good_note, sure_note, good_redo, sure_redo}
 use Rattle.rules.proofs.Basics.{never, put_same}
 use Rattle.rules.proofs.Holds.{Holds}
 use Rattle.rules.proofs.Moves.{good_take_read, good_take_write, sure_take_read, sure_take_write}
@@ -55,13 +52,13 @@ module _ {V : Type 0} (P : Policy V) where
         (λ _. ap (λ x. stored F o.word x q) (e ∙ z.1)) (λ _. refl))
         c
 
-    go : (x : Result V StockFault) → computed P.arithmetic (kind_of o.kind) (unwrap_or (seen t m o.word) o.value) o.value ≡ x → Post (access t o) l (answered t o.word (writing_access o) x m)
+    go : (x : Result V StockFault) → answer P.arithmetic (seen t m) o ≡ x → Post (access t o) l (answered t o.word (writing_access o) x m)
     go (Ok v) h =
-        cond_both (writing_access o) (drafted t o.word v m) m (λ m'. Post (access t o) l (accessed v, m'))
+        cond_both (writing_access o) (with_redo t o.word v m) m (λ m'. Post (access t o) l (accessed v, m'))
         (λ w. (
-          good_draft P m l good t below act sure o touch hold v h w (mine w) (room w),
-          λ _ _. subst (Replays P.arithmetic (logical (drafted t o.word v m))) (sym (put_same l.accesses t (l.accesses t ++ (record { asked = o; got = Ok v }) ∷ [])))
-              ((sure_draft P m l good t below act sure o touch hold v h w (mine w) (room w)).replays tt),
+          good_redo P m l good t below act sure o touch hold v h w (mine w) (room w),
+          λ _ _. subst (Replays P.arithmetic (logical (with_redo t o.word v m))) (sym (put_same l.accesses t (l.accesses t ++ (record { asked = o; got = Ok v }) ∷ [])))
+              ((sure_redo P m l good t below act sure o touch hold v h w (mine w) (room w)).replays tt),
         ))
         (λ w. let s = looks (Ok v) (inl w) in (
           good_note P m l good t below act sure o touch hold (Ok v) h s,
@@ -76,7 +73,7 @@ module _ {V : Type 0} (P : Policy V) where
         )
 
     pub post_performed : Post (access t o) l (performed P t o m)
-    post_performed = go (computed P.arithmetic (kind_of o.kind) (unwrap_or (seen t m o.word) o.value) o.value) refl
+    post_performed = go (answer P.arithmetic (seen t m) o) refl
 
   -- and one that takes its record first
   module _ (m : Machine V) (l : Ledger V) (t : ℕ) (o : Access V) (good : Good P m l) (below : t < 16)

@@ -1,22 +1,22 @@
--- A thread releases what it has read, and in the end what it has written.
+-- Releasing what was read, and in the end what was written, keeps the core.
 use Rattle.std.proofs.Common.{◌≡◌, ℕ, suc, ◌-◌, ◌<◌, ◌≤◌, Bool, true, false, cond, ◌&&◌, eqb, leb, Some, None, Option, sym, refl, ap, ◌∙◌, subst, ⊎_elim, arith}
 use Rattle.meaning.specs.Store.{put}
 use Rattle.policy.specs.declared.orec.Mode.{Mode}
 use Rattle.policy.specs.declared.orec.Mode.TheVariants.{Free, Read, Write}
 use Rattle.policy.specs.declared.orec.OwnershipRecord.{OwnershipRecord}
-use Rattle.rules.specs.ReadSet.{matches, reads_it}
-use Rattle.rules.specs.Parts.{kept}
+use Rattle.rules.specs.ReadSet.{pair, reads_it, valid_snapshot}
+use Rattle.rules.specs.Changes.{kept}
 use Rattle.rules.specs.Release.{freed, lowered, unread}
-use Rattle.rules.specs.Sound.{Dead, Each, Owned, Snap, gone, pair, readers_of}
+use Rattle.rules.specs.Sound.{Dead, Each, Owned, Snap, gone, readers_of}
 use Rattle.rules.specs.State.{Descriptor, idle, owns_to_write}
 use Rattle.rules.specs.Tables.{tally}
-use Rattle.rules.specs.Tests.{is_active, is_idle, is_read, is_write}
+use Rattle.rules.specs.Tests.{is_idle, is_read, is_write}
 use Rattle.rules.specs.WriteSet.{has}
 use Rattle.rules.specs.declared.descriptor.Seen.{Seen}
 use Rattle.rules.specs.declared.descriptor.Status.TheVariants.{Active, Idle}
 use Rattle.std.proofs.lemmas.Bool.{and_from, and_parts, both_ways, cases_Bool, cases_lt, cond_both, cond-false, cond-true, eq-eqb, eqb-true, false≢true, leb-false, leb-true, lt-leb, true≢false}
 use Rattle.rules.proofs.Basics.{never, put_at, put_other, put_same}
-use Rattle.rules.proofs.Inv.{Inv, Shape, Wrote, older, tally_same}
+use Rattle.rules.proofs.Inv.{Inv, Shape, Wrote, idle_reads, older, tally_same}
 use Rattle.rules.proofs.Sets.{held_reads, held_same, tally_two, tally_up}
 
 pub owned_is : (t v : ℕ) (o : OwnershipRecord) → owns_to_write t v o ≡ true → (o.mode ≡ Write) × (o.thread ≡ t) × (o.version ≡ v)
@@ -74,11 +74,10 @@ leaves_idle d =
       kept = λ e. absurd (true≢false e);
       shaped =
           record {
-            idle_reads = λ _ _. refl;
-            idle_writes = λ _. refl;
+            bare = λ _. refl;
             committed_reads = λ _ _. refl;
             beyond = λ _ _. refl;
-            active_written = λ _. refl;
+            unwritten = λ _. refl;
             few = omega arith;
             distinct = tt;
           };
@@ -96,11 +95,10 @@ leaves_kept d act s =
       kept = λ _. (refl, ap gone act, refl);
       shaped =
           record {
-            idle_reads = λ _ _. refl;
-            idle_writes = λ e. absurd (false≢true (ap is_idle e));
+            bare = λ e. absurd (false≢true (ap is_idle e));
             committed_reads = λ _ _. refl;
             beyond = λ _ _. refl;
-            active_written = λ e. absurd (false≢true (ap is_active e));
+            unwritten = λ n. absurd (n refl);
             few = s.few;
             distinct = s.distinct;
           };
@@ -173,7 +171,7 @@ module _ (f : ℕ → OwnershipRecord) (g : ℕ → Descriptor) (t : ℕ) (w : B
     ways r (λ o. pair o e ≡ true → o.mode ≡ Read)
         (λ _ m _ _ p. absurd (false≢true (ap is_write (sym (h.1 p) ∙ m))))
         (λ k u p.
-        let m : matches (f r) e ≡ true = and_from (is_read (f r).mode) (pair (f r) e) u p in
+        let m : valid_snapshot (f r) e ≡ true = and_from (is_read (f r).mode) (pair (f r) e) u p in
         cond-false (leb (f r).readers 1) Free Read (lt-leb (f r).readers 1 (two s r l n (ap (reads_it (f r)) q ∙ m) k)))
         (λ _ _. h.1),
   )
@@ -184,7 +182,7 @@ module _ (f : ℕ → OwnershipRecord) (g : ℕ → Descriptor) (t : ℕ) (w : B
       (λ _. subst (Each (Snap f₁ g₁ r)) (sym (c.empty r)) tt)
       (λ n. ⊎_elim
       (λ (l : s < 16). snap₁ s r l n ((g s).reads r) refl (i.snaps s r))
-      (λ (l : 16 ≤ s). subst (Each (Snap f₁ g₁ r)) (sym ((i.shape s).idle_reads (i.outside s l) r)) tt)
+      (λ (l : 16 ≤ s). subst (Each (Snap f₁ g₁ r)) (sym (idle_reads (g s) (i.shape s) (i.outside s l) r)) tt)
       (cases_lt s 16))
 
   pub wrote_release : (orec_of : ℕ → ℕ) → Wrote orec_of f g → Wrote orec_of f₁ g₁

@@ -3,8 +3,8 @@ use Rattle.std.proofs.Common.{◌≡◌, ℕ, zero, suc, ◌<◌, ◌≤◌, Boo
 use Rattle.meaning.specs.Store.{put}
 use Rattle.meaning.specs.Undo.{one}
 use Rattle.policy.specs.declared.orec.OwnershipRecord.{OwnershipRecord}
-use Rattle.rules.specs.ReadSet.{current, matches, reads_it, valid}
-use Rattle.rules.specs.Sound.{Each, pair}
+use Rattle.rules.specs.ReadSet.{current, pair, reads_it, valid, valid_snapshot}
+use Rattle.rules.specs.Sound.{Each}
 use Rattle.rules.specs.Tables.{every, tally}
 use Rattle.rules.specs.Tests.{is_read}
 use Rattle.rules.specs.declared.descriptor.Seen.{Seen}
@@ -107,7 +107,7 @@ valid_reads f q es out v h =
 -- snapshots that match still, matched before
 pub valid_before :
     (f f' : ℕ → OwnershipRecord) (Q : ℕ → Seen → Type 0) (es : ℕ → Option Seen) →
-    ((r : ℕ) (e : Seen) → Q r e → matches (f' r) e ≡ true → matches (f r) e ≡ true) → ((r : ℕ) → Each (Q r) (es r)) →
+    ((r : ℕ) (e : Seen) → Q r e → valid_snapshot (f' r) e ≡ true → valid_snapshot (f r) e ≡ true) → ((r : ℕ) → Each (Q r) (es r)) →
     valid f' es ≡ true → valid f es ≡ true
 valid_before f f' Q es k a h =
     every_from (λ r. current (f r) (es r)) 64

@@ -1,12 +1,12 @@
--- A thread takes a record, to read or to write.
+-- Taking an orec, to read or to write, keeps the core.
 use Rattle.std.proofs.Common.{◌≡◌, ℕ, suc, ◌+◌, ◌<◌, ◌≤◌, true, false, cond, eqb, ◌⊎◌, is_some, Some, None, Option, sym, refl, ap, ◌∙◌, subst, inl, inr, ⊎_elim, arith}
 use Rattle.meaning.specs.Store.{put}
 use Rattle.policy.specs.declared.orec.Mode.{Mode}
 use Rattle.policy.specs.declared.orec.Mode.TheVariants.{Free, Read, Write}
 use Rattle.policy.specs.declared.orec.OwnershipRecord.{OwnershipRecord}
-use Rattle.rules.specs.Parts.{exclusive, shared}
-use Rattle.rules.specs.ReadSet.{reads_it, seen_of}
-use Rattle.rules.specs.Sound.{Dead, Each, Owned, Snap, gone, pair, readers_of}
+use Rattle.rules.specs.Changes.{exclusive, shared}
+use Rattle.rules.specs.ReadSet.{pair, reads_it, seen_of}
+use Rattle.rules.specs.Sound.{Dead, Each, Owned, Snap, gone, readers_of}
 use Rattle.rules.specs.State.{Descriptor, with_reads}
 use Rattle.rules.specs.Tables.{tally}
 use Rattle.rules.specs.Tests.{is_committed, is_idle, is_read, is_write}
@@ -42,11 +42,10 @@ module _ (f : ℕ → OwnershipRecord) (g : ℕ → Descriptor) (t r : ℕ)
   shape_reads x out =
       let s = i.shape t in
       record {
-        idle_reads = λ e. absurd (false≢true (ap is_idle (sym act ∙ e)));
-        idle_writes = s.idle_writes;
+        bare = λ e. absurd (false≢true (ap is_idle (sym act ∙ e)));
         committed_reads = λ e. absurd (false≢true (ap is_committed (sym act ∙ e)));
         beyond = λ q l. put_at (g t).reads r q x (λ y. y ≡ None) (λ e. out (omega (arith, e, l))) (λ _. s.beyond q l);
-        active_written = s.active_written;
+        unwritten = s.unwritten;
         few = s.few;
         distinct = s.distinct;
       }

@@ -5,7 +5,7 @@ use Rattle.rules.specs.Ledger.{Ledger}
 use Rattle.rules.specs.Logical.{logical, pends}
 use Rattle.rules.specs.Machine.{Machine}
 use Rattle.rules.specs.Policy.{Policy}
-use Rattle.rules.specs.ReadSet.{matches, valid}
+use Rattle.rules.specs.ReadSet.{valid_snapshot, valid}
 use Rattle.rules.specs.Sound.{Snap, gone}
 use Rattle.rules.specs.State.{Descriptor, owns_to_write}
 use Rattle.rules.specs.Tests.{is_committed}
@@ -36,9 +36,9 @@ module _ {V : Type 0} (P : Policy V) where
 
   pub record Turn (m m' : Machine V) (t : ℕ) : Type 0 where
     pub desc_other : (s : ℕ) → (s ≡ t → ⊥) → m'.state.descriptors s ≡ m.state.descriptors s
-    pub match_was :
-        (r : ℕ) (e : Seen) → Snap m.state.orecs m.state.descriptors r e → matches (m'.state.orecs r) e ≡ true →
-        matches (m.state.orecs r) e ≡ true
+    pub valid_was :
+        (r : ℕ) (e : Seen) → Snap m.state.orecs m.state.descriptors r e → valid_snapshot (m'.state.orecs r) e ≡ true →
+        valid_snapshot (m.state.orecs r) e ≡ true
     pub owned_still :
         (s r : ℕ) → (s ≡ t → ⊥) → gone (m.state.descriptors s).status ≡ false →
         owns_to_write s (m.state.descriptors s).version (m.state.orecs r) ≡ true → owns_to_write s (m.state.descriptors s).version (m'.state.orecs r) ≡ true
@@ -55,7 +55,7 @@ module _ {V : Type 0} (P : Policy V) where
   module _ (m m' : Machine V) (t : ℕ) (u : Turn m m' t) (i : Inv m.state.orecs m.state.descriptors) where
     pub valid_other : (s : ℕ) → (s ≡ t → ⊥) → Valid m' s → Valid m s
     valid_other s n v =
-        valid_before m.state.orecs m'.state.orecs (Snap m.state.orecs m.state.descriptors) (m.state.descriptors s).reads u.match_was (i.snaps s)
+        valid_before m.state.orecs m'.state.orecs (Snap m.state.orecs m.state.descriptors) (m.state.descriptors s).reads u.valid_was (i.snaps s)
         (subst (λ d. valid m'.state.orecs d.reads ≡ true) (u.desc_other s n) v)
 
     pub other_leaves :

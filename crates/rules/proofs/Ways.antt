@@ -23,7 +23,7 @@ use Rattle.rules.specs.declared.descriptor.Status.TheVariants.{Active, Committed
 use Rattle.rules.specs.Accessing.{attempting, performed, proceeding}
 use Rattle.rules.specs.Changes.{aborted_by, begun_by, ended_by, kept_by}
 use Rattle.rules.specs.Contention.{acquired, cleared, full, takes, waits_for}
-use Rattle.rules.specs.Hardware.{ending, fitted, gated, launched, outcome_of, unless}
+use Rattle.rules.specs.Hardware.{fitted, gated, launched, outcome_of, unless, passed_on}
 use Rattle.rules.specs.Machine.{Machine, copied, on, with_words}
 use Rattle.rules.specs.Next.{lifted, next}
 use Rattle.rules.specs.Outcome.{Outcome, begun, cancelled, committed, declined, fault_in, ran, wrote_back}
@@ -268,8 +268,8 @@ module _ {V : Type 0} (P : Policy V) (m : Machine V) where
     abbrev u : Meaning V
     u = meaning P.arithmetic os m.words ys
 
-    ending_ways : (g t).status ≡ Idle → gated P.rules m.state 0 os ≡ Ok tt → Q (ending (concluded u) m)
-    ending_ways idl opens = go u.result refl
+    passed_on_ways : (g t).status ≡ Idle → gated P.rules m.state 0 os ≡ Ok tt → Q (passed_on (concluded u) m)
+    passed_on_ways idl opens = go u.result refl
       where
         go : (x : Result (Unit {0}) AccessFault) → u.result ≡ x → Q (outcome_of (as_decline x) u.answers, with_words u.words m)
         go (Ok tt) e = granted idl opens e
@@ -280,8 +280,8 @@ module _ {V : Type 0} (P : Policy V) (m : Machine V) where
     fitted_ways idl =
         unless_both (checked 0 m.count os) ys m _ Q (λ d e. stays d ys (checked_plain 0 m.count os d e))
         (λ _. cond_both (not (P.rules.fits (shapes os))) _ (launched P os ys m) Q (λ _. stays decline.Unfit ys (refl, omega arith))
-        (λ _. unless_both (gated P.rules m.state 0 os) ys m (ending (concluded u) m) Q (λ d e. stays d ys (gated_plain P.rules m.state 0 os d e))
-        (ending_ways idl)))
+        (λ _. unless_both (gated P.rules m.state 0 os) ys m (passed_on (concluded u) m) Q (λ d e. stays d ys (gated_plain P.rules m.state 0 os d e))
+        (passed_on_ways idl)))
 
     pub hardware_ways : Q (next P m (hardware t works os ys))
     hardware_ways =

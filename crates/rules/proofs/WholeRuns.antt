@@ -2,7 +2,8 @@
 use Rattle.std.proofs.Common.{◌≡◌, ℕ, ◌<◌, Bool, true, false, List, [], ◌∷◌, sym, refl, ap, ◌∙◌, subst}
 use Rattle.std.proofs.lemmas.Bool.{false≢true, true≢false}
 use Rattle.rules.specs.declared.descriptor.Status.TheVariants.{Active}
-use Rattle.rules.specs.Course.{Course, Moment, course, start, turn}
+use Rattle.rules.specs.Consistent.{Consistent, RunsConsistent}
+use Rattle.rules.specs.Course.{Course, Moment, after, before, course, outcome, start, turn}
 use Rattle.rules.specs.EveryRun.{EveryRun}
 use Rattle.rules.specs.Lawful.{Lawful}
 use Rattle.rules.specs.Machine.{new}
@@ -12,7 +13,7 @@ use Rattle.rules.specs.Ownership.{reading, writing}
 use Rattle.rules.specs.Policy.{Laws, Policy}
 use Rattle.rules.specs.Reached.{Reached}
 use Rattle.rules.specs.Request.{Request, access, caller, commit, hardware}
-use Rattle.rules.specs.Serial.{Consistent, RunsConsistent, RunsSerial, Serial, after, before, outcome}
+use Rattle.rules.specs.Serial.{RunsSerial, Serial}
 use Rattle.rules.specs.Tests.{is_active, is_committed}
 use Rattle.rules.proofs.Bounds.{Steady, state_new}
 use Rattle.rules.proofs.Calls.{post_next}

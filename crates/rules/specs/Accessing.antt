@@ -1,24 +1,23 @@
 -- access: one access of a software transaction.
 --   seen         what t sees at a word: its own redo value, else the word
---   answered     a value is answered, and a writing access drafts it; a stock fault leaves what was taken
+--   answered     a value is answered, and of a writing access becomes the redo value; a stock fault leaves what was taken
 --   performed    the access on what t sees
---   proceeding   an access that no check has declined: room, then waiting, then taking, then the value
---   attempting   an access of an active transaction: kind, word, snapshots
---   accessing    the whole call
+--   proceeding   room in the sets, then waiting, then taking, then the value
+--   attempting   an access of an active transaction: kind, word and snapshots first
+--   accessing    the whole call: thread, numbers lent and status first
 use Rattle.std.specs.Prelude.{ℕ, Bool, cond, not, ◌||◌, [], is_some, Ok, Err, Result, ◌==◌, nat_le, nat_lt}
-use Rattle.std.specs.Option.{unwrap_or}
 use Rattle.stock.specs.declared.access.Access.{Access}
 use Rattle.stock.specs.declared.fault.StockFault.{StockFault}
 use Rattle.stock.specs.Access.{writing_access}
-use Rattle.stock.specs.Arithmetic.{computed}
 use Rattle.stock.specs.Fault.{alone}
 use Rattle.stock.specs.Kind.{kind_of}
 use Rattle.decline.specs.declared.Decline.TheVariants.{Aborted, SetFull, SnapshotInvalid, Stock, UnknownKind, UnknownThread, UnknownWord, Wait, WrongLength, WrongStatus}
 use Rattle.meaning.specs.Check.{bad_count}
+use Rattle.meaning.specs.Meaning.{answer}
 use Rattle.meaning.specs.Store.{Store}
 use Rattle.rules.specs.Changes.{ended_by}
 use Rattle.rules.specs.Contention.{acquired, full, takes, waits_for}
-use Rattle.rules.specs.Machine.{Machine, drafted, on, slot}
+use Rattle.rules.specs.Machine.{Machine, with_redo, on, slot}
 use Rattle.rules.specs.Outcome.{Outcome, accessed, declined}
 use Rattle.rules.specs.Policy.{Policy}
 use Rattle.rules.specs.ReadSet.{valid}
@@ -33,14 +32,12 @@ module _ {V : Type 0} where
       cond (has b d.writes) (m.redo (slot t (place b d.writes))) (m.words b)
 
   abbrev pub answered : ℕ → ℕ → Bool → Result V StockFault → Machine V → Outcome V × Machine V
-  answered t b writing (Ok v) m = (accessed v, cond writing (drafted t b v m) m)
+  answered t b writing (Ok v) m = (accessed v, cond writing (with_redo t b v m) m)
   answered t b writing (Err f) m = (declined (Stock (alone f)) [], m)
 
   abbrev pub performed : Policy V → ℕ → Access V → Machine V → Outcome V × Machine V
   performed P t a m =
-      answered t a.word (writing_access a)
-      (computed P.arithmetic (kind_of a.kind) (unwrap_or (seen t m a.word) a.value) a.value)
-      m
+      answered t a.word (writing_access a) (answer P.arithmetic (seen t m) a) m
 
   abbrev pub proceeding : Policy V → ℕ → Access V → Machine V → Outcome V × Machine V
   proceeding P t a m =

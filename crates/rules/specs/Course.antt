@@ -1,10 +1,11 @@
 -- The course of a run: the memory, the ledger, and which transactions are committed, told from the outcomes.
 --   Course   where a run has come to
---   Moment   a request of a run, with those before it and those after it
 --   told     a transaction is committed from a commit that answers above 0 until a write-back leaves 0
 --   start    a new memory and a new ledger
 --   turn     one request more
 --   course   a list of requests more
+--   Moment   a request of a run, with those before it and those after it
+--   before, outcome, after   the run up to a moment's request, what the request is answered, and the run with it
 use Rattle.std.specs.Prelude.{◌≡◌, ℕ, Bool, false, List, [], ◌∷◌, ◌++◌, nat_lt}
 use Rattle.meaning.specs.Store.{put}
 use Rattle.rules.specs.Ledger.{Ledger, feed, new_ledger}
@@ -19,12 +20,6 @@ pub record Course (V : Type 0) : Type 0 where
   pub memory : Machine V
   pub ledger : Ledger V
   pub committed : ℕ → Bool
-
-pub record Moment {V : Type 0} (requests : List (Request V)) : Type 0 where
-  pub past : List (Request V)
-  pub request : Request V
-  pub future : List (Request V)
-  pub whole : requests ≡ past ++ request ∷ future
 
 module _ {V : Type 0} where
   abbrev pub told : Request V → Outcome V → (ℕ → Bool) → ℕ → Bool
@@ -41,3 +36,19 @@ module _ {V : Type 0} where
   abbrev pub course : Policy V → Course V → List (Request V) → Course V
   course P s [] = s
   course P s (c ∷ cs) = course P (turn P s c) cs
+
+pub record Moment {V : Type 0} (requests : List (Request V)) : Type 0 where
+  pub past : List (Request V)
+  pub request : Request V
+  pub future : List (Request V)
+  pub whole : requests ≡ past ++ request ∷ future
+
+module _ {V : Type 0} (P : Policy V) (ws ds : List V) (requests : List (Request V)) where
+  abbrev pub before : Moment requests → Course V
+  before q = course P (start ws ds) q.past
+
+  abbrev pub outcome : Moment requests → Outcome V
+  outcome q = (next P (before q).memory q.request).0
+
+  abbrev pub after : Moment requests → Course V
+  after q = turn P (before q) q.request

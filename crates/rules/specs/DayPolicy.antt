@@ -6,17 +6,8 @@ use Rattle.policy.specs.Gates.{by_record}
 use Rattle.policy.specs.Maps.{by_remainder}
 use Rattle.policy.specs.Precedence.{by_start}
 use Rattle.hardware.specs.Limits.{written_words}
-use Rattle.rules.specs.Policy.{Policy}
+use Rattle.rules.specs.Policy.{Policy, policy_of}
 
 abbrev pub day_policy : Policy Count
 day_policy =
-    record {
-      arithmetic = count_arithmetic;
-      rules =
-          record {
-            orec_of = by_remainder;
-            precedes = by_start;
-            gate = λ mode n writing. by_record mode writing;
-            fits = λ s. nat_le (length (written_words s)) 16;
-          };
-    }
+    policy_of count_arithmetic by_remainder by_start (λ mode n writing. by_record mode writing) (λ s. nat_le (length (written_words s)) 16)

@@ -1,9 +1,10 @@
 -- run_hardware: a hardware transaction beside the software transactions.
---   gated      the gate's answer for each access in order: the first that it declines, with its place and orec
---   ending     the path's outcome as the memory's, with the answers that it leaves
---   launched   the gate, and then the path
---   fitted     kinds and words, then whether it fits
---   running    the whole call
+--   gated      the gate is asked for each access in order: the first that it declines counts, with its place and orec
+--   unless     declined where a check has declined, with the answers as lent; else what comes next
+--   outcome_of, passed_on   what the meaning comes to, as an outcome with the answers that it leaves, and its words
+--   launched   the gate, and then the meaning
+--   fitted     kinds and words, then whether it fits the path
+--   running    the whole call: thread, numbers lent, status and numbers of accesses first
 use Rattle.std.specs.Prelude.{ℕ, ◌+◌, cond, not, ◌||◌, List, [], ◌∷◌, length, Ok, Err, Result, ◌==◌, nat_lt}
 use Rattle.stock.specs.declared.access.Access.{Access}
 use Rattle.stock.specs.Access.{writing_access}
@@ -30,17 +31,16 @@ module _ {V : Type 0} where
   outcome_of (Ok u) ys = ran ys
   outcome_of (Err d) ys = declined d ys
 
-  abbrev pub ending : Performed V → Machine V → Outcome V × Machine V
-  ending p m = (outcome_of p.outcome p.answers, with_words p.words m)
+  abbrev pub passed_on : Performed V → Machine V → Outcome V × Machine V
+  passed_on p m = (outcome_of p.outcome p.answers, with_words p.words m)
 
-  -- go on unless a check has declined
   abbrev pub unless : Result (Unit {0}) Decline → List V → Machine V → Outcome V × Machine V → Outcome V × Machine V
-  unless (Ok u) ys m next = next
-  unless (Err d) ys m next = (declined d ys, m)
+  unless (Ok u) ys m rest = rest
+  unless (Err d) ys m rest = (declined d ys, m)
 
   abbrev pub launched : Policy V → List (Access V) → List V → Machine V → Outcome V × Machine V
   launched P os ys m =
-      unless (gated P.rules m.state 0 os) ys m (ending (concluded (meaning P.arithmetic os m.words ys)) m)
+      unless (gated P.rules m.state 0 os) ys m (passed_on (concluded (meaning P.arithmetic os m.words ys)) m)
 
   abbrev pub fitted : Policy V → List (Access V) → List V → Machine V → Outcome V × Machine V
   fitted P os ys m =

@@ -3,6 +3,7 @@ pub mod Begin
 pub mod Cancel
 pub mod Changes
 pub mod Commit
+pub mod Consistent
 pub mod Contention
 pub mod Course
 pub mod DayPolicy
@@ -18,7 +19,6 @@ pub mod Orderly
 pub mod Outcome
 pub mod Outside
 pub mod Ownership
-pub mod Parts
 pub mod Policy
 pub mod Reached
 pub mod ReadSet

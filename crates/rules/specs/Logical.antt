@@ -1,5 +1,6 @@
 -- The logical value of a word: the redo value of a committed transaction that has still to write it back, else the word.
 --   pends     the word b is still to be written back by a descriptor
+--   logical_below   the same, told of the threads below a number
 --   logical   the logical value of each word
 use Rattle.std.specs.Prelude.{ℕ, zero, suc, Bool, cond, ◌&&◌, nat_le}
 use Rattle.meaning.specs.Store.{Store}

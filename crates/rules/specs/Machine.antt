@@ -2,8 +2,9 @@
 --   Machine     the control state, the words and the redo values, and how many of each are lent
 --   new         a new memory with these words and redo values
 --   on          a change of the control state; values stay
+--   with_words  other words; all else stays
 --   slot        where the redo value of a written word stands: 32 places for each thread
---   drafted     t's redo value of the word b becomes v
+--   with_redo   t's redo value of the word b becomes v, and the word is among those that t has written
 --   copied      the next redo value of t, of the word b, is written back
 use Rattle.std.specs.Prelude.{ℕ, ◌+◌, ◌*◌, List, length, Some}
 use Rattle.meaning.specs.Store.{Store, nth, put}
@@ -31,8 +32,8 @@ module _ {V : Type 0} where
   abbrev pub with_words : Store V → Machine V → Machine V
   with_words w m = record { state = m.state; count = m.count; words = w; redo_count = m.redo_count; redo = m.redo }
 
-  abbrev pub drafted : ℕ → ℕ → V → Machine V → Machine V
-  drafted t b v m =
+  abbrev pub with_redo : ℕ → ℕ → V → Machine V → Machine V
+  with_redo t b v m =
       record {
         state = listed_by t b m.state;
         count = m.count;

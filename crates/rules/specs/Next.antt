@@ -1,6 +1,7 @@
 -- The outcome of any request, and the memory after it.
+--   spoken   what a call answers, as an outcome
 --   lifted   a call that is lent no values, as a change of the whole memory
---   next     all calls in one
+--   next     all six requests in one
 use Rattle.std.specs.Prelude.{ℕ, [], Ok, Err, Result}
 use Rattle.decline.specs.declared.Decline.{Decline}
 use Rattle.rules.specs.Accessing.{accessing}

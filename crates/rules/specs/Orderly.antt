@@ -2,13 +2,12 @@
 --   Loses     one of the two ownership numbers of s, told by its bits, has a bit set before and not after
 --   Orderly   the law
 use Rattle.std.specs.Prelude.{◌≡◌, ℕ, Bool, true, false, List, ◌≢◌}
-use Rattle.rules.specs.Course.{Moment}
+use Rattle.rules.specs.Course.{Moment, after, before, outcome}
 use Rattle.rules.specs.Outcome.{returned}
 use Rattle.rules.specs.Outside.{ByPreceding, Foremost, IsAborted, IsActive}
 use Rattle.rules.specs.Ownership.{read_bit, write_bit}
 use Rattle.rules.specs.Policy.{Policy}
 use Rattle.rules.specs.Request.{Request, caller}
-use Rattle.rules.specs.Serial.{after, before, outcome}
 use Rattle.rules.specs.State.{State}
 
 abbrev pub Loses : (State → ℕ → ℕ → Bool) → State → State → ℕ → Type 0

@@ -1,6 +1,8 @@
 -- What a memory answers.
 --   Outcome      by call: a version; a value; the words to write back; the word written back and how many are left; cancelled;
 --                the answers of a hardware transaction; or a decline, with the answers that a hardware transaction leaves
+--   fault_in     the stock fault that a decline carries
+--   as_answer    a stock fault as the answer to an access
 --   returned     the number returned: 0 where a request is granted
 --   is_granted   the request is granted
 --   answer_in    the answer to an access: its value, or with 15 its stock fault; other outcomes have none
@@ -21,7 +23,6 @@ pub data Outcome (V : Type 0) : Type 0 where
   ran : (answers : List V) → Outcome V
   declined : Decline → (answers : List V) → Outcome V
 
--- the stock fault that a decline carries
 abbrev pub fault_in : Decline → Option StockFault
 fault_in decline.UnknownThread = None
 fault_in decline.WrongLength = None

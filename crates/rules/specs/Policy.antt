@@ -32,7 +32,7 @@ pub record Laws (R : Rules) : Type 0 where
   pub irreflexive : (p : Priority) → Possible p → R.precedes p p ≡ false
   pub transitive : (p q r : Priority) → Possible p → Possible q → Possible r → R.precedes p q ≡ true → R.precedes q r ≡ true → R.precedes p r ≡ true
   pub decided : (p q : Priority) → Possible p → Possible q → (p.thread ≢ q.thread) → R.precedes p q ≡ not (R.precedes q p)
-  pub gate_look : (m : Mode) (n : ℕ) → 1 ≤ n → R.gate m n false ≡ true → m ≢ Write
-  pub gate_write : (m : Mode) (n : ℕ) → 1 ≤ n → R.gate m n true ≡ true → m ≡ Free
+  pub gate_look : (m : Mode) (n : ℕ) → 1 ≤ n → n ≤ 16 → R.gate m n false ≡ true → m ≢ Write
+  pub gate_write : (m : Mode) (n : ℕ) → 1 ≤ n → n ≤ 16 → R.gate m n true ≡ true → m ≡ Free
   pub gate_alone : (w : Bool) → R.gate Free 0 w ≡ true
   pub fits_short : (s : List (ℕ × ℕ)) → length s ≤ 1 → Known s → R.fits s ≡ true

@@ -1,5 +1,6 @@
 -- Accesses with their answers, run again on a store: what a ledger does.
 --   Answered   an access with the answer that it got
+--   stored     a store with the value that an access got, if it got one
 --   effect     what an access makes of a store: a look and a refused access leave it
 --   replayed   the store after the accesses, one after another
 --   Replays    run on this store, the accesses give the answers recorded

@@ -1,4 +1,4 @@
--- What the rules answer to a list of requests, and the machine that they leave.
+-- What the rules answer to a list of requests, one after another.
 use Rattle.std.specs.Prelude.{List, [], ◌∷◌}
 use Rattle.rules.specs.Machine.{Machine}
 use Rattle.rules.specs.Next.{next}
@@ -10,7 +10,3 @@ module _ {V : Type 0} where
   abbrev pub replies : Policy V → Machine V → List (Request V) → List (Outcome V)
   replies P m [] = []
   replies P m (c ∷ cs) = (next P m c).0 ∷ replies P (next P m c).1 cs
-
-  abbrev pub left : Policy V → Machine V → List (Request V) → Machine V
-  left P m [] = m
-  left P m (c ∷ cs) = left P (next P m c).1 cs

@@ -1,22 +1,21 @@
 -- What every control state of a memory keeps, whatever values it is lent: the invariant of the state.
---   pair               a snapshot has the thread and the version of an orec
---   gone               no transaction, or one that will take no more orecs
+--   gone               idle or aborted: a transaction that takes no more orecs and will not commit
 --   Dead               a version of the descriptor's thread that takes no orec any more
 --   Each               what holds of a snapshot, if there is one
 --   Distinct           no word is listed twice
 --   Owned              an orec in write mode is that of a transaction under way
---   Snap               a snapshot of r is of a dead version, and while r has that version it is in read mode
+--   Snap               a snapshot of r is of a dead version, and while r has its thread and version it is in read mode
 --   readers_of         how many of the 16 threads have a valid snapshot of r
---   SoundOrec          the readers fit the mode, thread and version are in their ranges
 --   SoundPriority      a possible priority, of a transaction of thread t that is among the begins so far
 --   SoundDescriptor    versions and sets in their bounds, and what each status says of them
---   SoundState         orecs and descriptors are sound and fit each other, and whoever is not idle has the priority of its begin
+--   SoundState         orecs are well formed, descriptors sound, they fit each other, and whoever is not idle has a sound priority
 --   StateSound         a new state is sound, every request keeps it so, and with no transaction under way every orec is free
-use Rattle.std.specs.Prelude.{◌≡◌, ℕ, ◌<◌, ◌≤◌, Bool, true, false, ◌&&◌, List, [], ◌∷◌, length, Some, None, Option, ◌==◌, ◌≢◌}
+use Rattle.std.specs.Prelude.{◌≡◌, ℕ, ◌<◌, ◌≤◌, Bool, true, false, List, [], ◌∷◌, length, Some, None, Option, ◌≢◌}
 use Rattle.std.specs.List.{AllByRecursion}
 use Rattle.policy.specs.declared.orec.Mode.TheVariants.{Free, Read, Write}
 use Rattle.policy.specs.declared.orec.OwnershipRecord.{OwnershipRecord}
 use Rattle.policy.specs.declared.priority.Priority.{Priority}
+use Rattle.policy.specs.Orec.{well_formed}
 use Rattle.policy.specs.Priority.{Possible}
 use Rattle.rules.specs.declared.descriptor.Seen.{Seen}
 use Rattle.rules.specs.declared.descriptor.Status.{Status}
@@ -24,15 +23,11 @@ use Rattle.rules.specs.declared.descriptor.Status.TheVariants.{Idle, Active, Abo
 use Rattle.rules.specs.Machine.{Machine}
 use Rattle.rules.specs.Next.{next}
 use Rattle.rules.specs.Policy.{Laws, Policy}
-use Rattle.rules.specs.ReadSet.{reads_it, size}
+use Rattle.rules.specs.ReadSet.{pair, reads_it, size}
 use Rattle.rules.specs.Request.{Request}
-use Rattle.rules.specs.State.{Descriptor, State, new_state}
+use Rattle.rules.specs.State.{Descriptor, State, idle, new_state, under_way}
 use Rattle.rules.specs.Tables.{tally, total}
-use Rattle.rules.specs.Tests.{is_read}
 use Rattle.rules.specs.WriteSet.{has}
-
-abbrev pub pair : OwnershipRecord → Seen → Bool
-pair o e = o.thread == e.thread && o.version == e.version
 
 abbrev pub gone : Status → Bool
 gone Idle = true
@@ -60,12 +55,6 @@ Snap f g r e = Dead (g e.thread) e.version × (pair (f r) e ≡ true → (f r).m
 abbrev pub readers_of : (ℕ → OwnershipRecord) → (ℕ → Descriptor) → ℕ → ℕ
 readers_of f g r = tally (λ t. reads_it (f r) ((g t).reads r)) 16
 
-pub record SoundOrec (o : OwnershipRecord) : Type 0 where
-  pub unread : is_read o.mode ≡ false → o.readers ≡ 0
-  pub read : o.mode ≡ Read → (1 ≤ o.readers) × (o.readers ≤ 16)
-  pub thread_bound : o.thread ≤ 15
-  pub version_bound : o.version ≤ 1000000
-
 pub record SoundPriority (t begins : ℕ) (p : Priority) : Type 0 where
   pub possible : Possible p
   pub counted : p.start ≤ begins
@@ -75,17 +64,17 @@ pub record SoundDescriptor (d : Descriptor) : Type 0 where
   pub version_bound : d.version ≤ 1000000
   pub reads_few : size d.reads ≤ 32
   pub reads_bound : (r : ℕ) → 64 ≤ r → d.reads r ≡ None
+  pub reads_threads : (r : ℕ) → Each (λ e. e.thread ≤ 15) (d.reads r)
   pub writes_few : length d.writes ≤ 32
   pub writes_bound : AllByRecursion (λ b. b < 4096) d.writes
   pub writes_distinct : Distinct d.writes
-  pub idle_reads : d.status ≡ Idle → (r : ℕ) → d.reads r ≡ None
-  pub idle_writes : d.status ≡ Idle → d.writes ≡ []
-  pub active_written : d.status ≡ Active → d.written_back ≡ 0
+  pub bare : d.status ≡ Idle → d ≡ idle d.version
+  pub unwritten : (d.status ≢ Committed) → d.written_back ≡ 0
   pub committed_reads : d.status ≡ Committed → (r : ℕ) → d.reads r ≡ None
   pub committed_left : d.status ≡ Committed → d.written_back < length d.writes
 
 pub record SoundState (c : State) : Type 0 where
-  pub orecs : (r : ℕ) → SoundOrec (c.orecs r)
+  pub orecs : (r : ℕ) → well_formed (c.orecs r) ≡ true
   pub descriptors : (t : ℕ) → SoundDescriptor (c.descriptors t)
   pub priorities : (t : ℕ) → ((c.descriptors t).status ≢ Idle) → SoundPriority t c.begins (c.descriptors t).priority
   pub outside : (t : ℕ) → 16 ≤ t → (c.descriptors t).status ≡ Idle
@@ -100,4 +89,4 @@ pub record StateSound (V : Type 0) : Type 0 where
   pub kept_sound :
       (P : Policy V) → Laws P.rules → (m : Machine V) (c : Request V) → SoundState m.state → SoundState (next P m c).1.state
   pub quiet_free :
-      (c : State) → SoundState c → ((t : ℕ) → t < 16 → (c.descriptors t).status ≡ Idle) → (r : ℕ) → (c.orecs r).mode ≡ Free
+      (c : State) → SoundState c → under_way c ≡ 0 → (r : ℕ) → (c.orecs r).mode ≡ Free

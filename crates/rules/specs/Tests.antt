@@ -5,11 +5,6 @@ use Rattle.policy.specs.declared.orec.Mode.TheVariants.{Free, Read, Write}
 use Rattle.rules.specs.declared.descriptor.Status.{Status}
 use Rattle.rules.specs.declared.descriptor.Status.TheVariants.{Idle, Active, Aborted, Committed}
 
-abbrev pub is_free : Mode → Bool
-is_free Free = true
-is_free Read = false
-is_free Write = false
-
 abbrev pub is_read : Mode → Bool
 is_read Free = false
 is_read Read = true

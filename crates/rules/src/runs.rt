@@ -1,7 +1,8 @@
-// What holds of every run, for every policy that meets its laws.
+// What holds of every run: the answers to an audit.
 ghost use Rattle.rules.specs.EveryRun.{EveryRun, LawsSuffice};
 ghost use Rattle.rules.specs.Policy.{policy_of};
-ghost use Rattle.rules.specs.Serial.{RunsConsistent, RunsSerial};
+ghost use Rattle.rules.specs.Consistent.{RunsConsistent};
+ghost use Rattle.rules.specs.Serial.{RunsSerial};
 
 use hardware::path::HardwarePath;
 use policy::contention::ContentionManager;
@@ -9,7 +10,8 @@ use policy::gate::Gate;
 use policy::map::OrecMap;
 use stock::value::Stock;
 
-// One serial order gives the values and every answer.
+// One serial order, that of granting, gives the values, every answer of a transaction that commits and those of granted
+// hardware transactions.
 #[tactic(auto, using(crate::proofs::WholeRuns::runs_serial))]
 pub fn runs_serial<V>()
     ensures { RunsSerial V }
