@@ -63,26 +63,26 @@ mask_beyond h (suc n) zero e = omega arith
 mask_beyond h (suc n) (suc r) e =
     omega (arith, mask_beyond (λ r. h (suc r)) n r (sym (ap (bit r) (half (mask_of (λ r. h (suc r)) n) (h 0))) ∙ e))
 
-shown : (c : State) (t : ℕ) → t < 16 → Shown c t (masks c t).0 (masks c t).1
-shown c t l =
-    let known = le-ltb 15 t (omega (arith, l)) in
+shown : (c : State) (t : ℕ) → Shown c t
+shown c t =
     record {
-      answered = cond-false (ltb 15 t) _ _ known;
       reads_shown = mask_bit (reading c t) 64;
       writes_shown = mask_bit (writing c t) 64;
       reads_fit = mask_lt (reading c t) 64;
       writes_fit = mask_lt (writing c t) 64;
       count_shown =
-          cond-false (ltb 15 t) _ _ known
-          ∙ ap (λ n. Ok (n + ones (mask_of (writing c t) 64))) (mask_ones (reading c t) 64)
-          ∙ ap (λ n. Ok (tally (reading c t) 64 + n)) (mask_ones (writing c t) 64);
+          ap (λ n. n + ones (mask_of (writing c t) 64)) (mask_ones (reading c t) 64)
+          ∙ ap (λ n. tally (reading c t) 64 + n) (mask_ones (writing c t) 64);
     }
 
 pub ownership_shown : OwnershipShown
 ownership_shown =
     record {
-      known = λ c t l. ((masks c t).0, (masks c t).1, shown c t l);
-      unknown = λ c t l. let e = lt-ltb 15 t l in (cond-true (ltb 15 t) _ _ e, cond-true (ltb 15 t) _ _ e);
+      shown = shown;
+      answered =
+          λ c t l. let known = le-ltb 15 t (omega (arith, l)) in
+          (cond-false (ltb 15 t) _ _ known, cond-false (ltb 15 t) _ _ known ∙ ap Ok (shown c t).count_shown);
+      declined = λ c t l. let e = lt-ltb 15 t l in (cond-true (ltb 15 t) _ _ e, cond-true (ltb 15 t) _ _ e);
     }
 
 pub readers_shown : ReadersShown
