@@ -1,5 +1,5 @@
 -- What the two numbers of `masks` say, by recursion on their bits; and the readers of a sound state by them.
-use Rattle.std.proofs.Common.{◌≡◌, ℕ, zero, suc, ◌+◌, ◌*◌, ◌/◌, ◌%◌, ◌^◌, ◌<◌, Bool, true, false, ◌&&◌, eqb, Some, None, Option, sym, refl, ap, ◌∙◌, ⊎_elim, pow-suc, arith, ◌≤◌, ltb, Ok}
+use Rattle.std.proofs.Common.{◌≡◌, ℕ, zero, suc, ◌+◌, ◌*◌, ◌/◌, ◌%◌, ◌^◌, ◌<◌, Bool, true, false, ◌&&◌, eqb, Some, None, Option, sym, refl, ap, ◌∙◌, ⊎_elim, pow-suc, arith, ltb, Ok}
 use lib.Count.{ones, ones_cat, ones_in}
 use Rattle.meaning.specs.Undo.{one}
 use Rattle.policy.specs.declared.orec.Mode.TheVariants.{Read}

@@ -133,7 +133,7 @@ module _ {V : Type 0} (P : Policy V) (laws : Laws P.rules) where
               let l = mask_beyond (writing (at q).memory.state s) 64 r had.1 in
               loses true q s r by.0 (active_is P (at q).memory s by.1)
               (sym (mask_bit (writing (at q).memory.state s) 64 r l) ∙ had.1) (sym (mask_bit (writing (then q).memory.state s) 64 r l) ∙ had.2);
-          foremost_never_waits = λ q first none. (just q).1 first (λ s _. (was q).agree s ∙ none s);
+          foremost_never_waits = λ q first none. (just q).1 first (λ s l. (was q).agree s ∙ none s l);
         }
 
     lawful : Lawful P ws ds requests

@@ -7,6 +7,7 @@ pub mod Consistent
 pub mod Contention
 pub mod Course
 pub mod DayPolicy
+pub mod Days
 pub mod EveryRun
 pub mod Figures
 pub mod Hardware

@@ -1,7 +1,7 @@
 -- The third law of every run: a transaction gives way only to one that precedes it, and the foremost waits only for write-backs.
 --   Loses     one of the two ownership numbers of s, told by its bits, has a bit set before and not after
 --   Orderly   the law
-use Rattle.std.specs.Prelude.{◌≡◌, ℕ, Bool, true, false, List, ◌≢◌}
+use Rattle.std.specs.Prelude.{◌≡◌, ℕ, ◌<◌, Bool, true, false, List, ◌≢◌}
 use Rattle.rules.specs.Course.{Moment, after, before, outcome}
 use Rattle.rules.specs.Outcome.{returned}
 use Rattle.rules.specs.Outside.{ByPreceding, Foremost, IsAborted, IsActive}
@@ -37,4 +37,4 @@ module _ {V : Type 0} (P : Policy V) (ws ds : List V) (requests : List (Request 
     -- while none is committed, the foremost transaction is never told to wait
     pub foremost_never_waits :
         (q : Moment requests) → Foremost P (before P ws ds requests q).memory (caller q.request) →
-        ((s : ℕ) → (before P ws ds requests q).committed s ≡ false) → returned (outcome P ws ds requests q) ≢ 12
+        ((s : ℕ) → s < 16 → (before P ws ds requests q).committed s ≡ false) → returned (outcome P ws ds requests q) ≢ 12

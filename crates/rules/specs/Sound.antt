@@ -9,6 +9,7 @@
 --   SoundPriority      a possible priority, of a transaction of thread t that is among the begins so far
 --   SoundDescriptor    versions and sets in their bounds, and what each status says of them
 --   SoundState         orecs are well formed, descriptors sound, they fit each other, and whoever is not idle has a sound priority
+--   KeptSound          every request keeps a sound state sound, by this policy
 --   StateSound         a new state is sound, every request keeps it so, and with no transaction under way every orec is free
 use Rattle.std.specs.Prelude.{◌≡◌, ℕ, ◌<◌, ◌≤◌, Bool, true, false, List, [], ◌∷◌, length, Some, None, Option, ◌≢◌}
 use Rattle.std.specs.List.{AllByRecursion}
@@ -84,9 +85,11 @@ pub record SoundState (c : State) : Type 0 where
   pub readers : (r : ℕ) → (c.orecs r).mode ≡ Read → (c.orecs r).readers ≡ readers_of c.orecs c.descriptors r
   pub begins : c.begins ≡ total (λ t. (c.descriptors t).version) 16
 
+abbrev pub KeptSound : {V : Type 0} → Policy V → Type 0
+KeptSound {V} P = (m : Machine V) (c : Request V) → SoundState m.state → SoundState (next P m c).1.state
+
 pub record StateSound (V : Type 0) : Type 0 where
   pub new_sound : SoundState new_state
-  pub kept_sound :
-      (P : Policy V) → Laws P.rules → (m : Machine V) (c : Request V) → SoundState m.state → SoundState (next P m c).1.state
+  pub kept_sound : (P : Policy V) → Laws P.rules → KeptSound P
   pub quiet_free :
       (c : State) → SoundState c → under_way c ≡ 0 → (r : ℕ) → (c.orecs r).mode ≡ Free

@@ -3,6 +3,7 @@ ghost use Rattle.rules.specs.EveryRun.{EveryRun, LawsSuffice};
 ghost use Rattle.rules.specs.Policy.{policy_of};
 ghost use Rattle.rules.specs.Consistent.{RunsConsistent};
 ghost use Rattle.rules.specs.Serial.{RunsSerial};
+ghost use Rattle.rules.specs.Sound.{KeptSound};
 
 use hardware::path::HardwarePath;
 use policy::contention::ContentionManager;
@@ -36,5 +37,6 @@ pub fn kinds_suffice<V: Stock, M: OrecMap, C: ContentionManager, G: Gate, P: Har
     gate: &G,
     path: &P,
 )
-    ensures { EveryRun (policy_of V.arithmetic (M.maps map.now) (C.ahead manager.now) (G.opens gate.now) (P.holds path.now)) }
+    ensures runs { EveryRun (policy_of V.arithmetic (M.maps map.now) (C.ahead manager.now) (G.opens gate.now) (P.holds path.now)) }
+    ensures sound { KeptSound (policy_of V.arithmetic (M.maps map.now) (C.ahead manager.now) (G.opens gate.now) (P.holds path.now)) }
 {}
