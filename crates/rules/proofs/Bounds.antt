@@ -9,7 +9,7 @@ use Rattle.policy.specs.declared.orec.Mode.TheVariants.{Write}
 use Rattle.policy.specs.declared.orec.OwnershipRecord.{OwnershipRecord}
 use Rattle.rules.specs.declared.descriptor.Seen.{Seen}
 use Rattle.rules.specs.declared.descriptor.Status.TheVariants.{Aborted, Active, Committed, Idle}
-use Rattle.rules.specs.Changes.{aborted_by, backed_by, ended_by, kept_by, listed_by, begun_by, kept, newly_begun, read_by, written_by}
+use Rattle.rules.specs.Changes.{aborted_by, backed_by, ended_by, committed_by, listed_by, begun_by, newly_committed, newly_begun, read_by, written_by}
 use Rattle.rules.specs.ReadSet.{seen_of, size}
 use Rattle.rules.specs.Sound.{Each, SoundPriority, gone}
 use Rattle.rules.specs.State.{Descriptor, State, idle, new_state, with_reads, with_status, with_writes, with_written_back}
@@ -186,12 +186,12 @@ module _ (c : State) (t : ℕ) (below : t < 16) where
               (λ _. since) s.bounds;
         }
 
-    pub state_kept : (length (g t).writes ≡ 0 → ⊥) → Steady (kept_by t c)
+    pub state_kept : (length (g t).writes ≡ 0 → ⊥) → Steady (committed_by t c)
     state_kept some =
         record {
-          inv = inv_release f g t false (kept (g t)) below (leaves_kept (g t) act (s.inv.shape t)) s.inv;
-          left = left_put g t (kept (g t)) s.left (λ _. omega (arith, active_unwritten (g t) (s.inv.shape t) act, some));
-          bounds = bounds_put c _ t (kept (g t)) refl (size_none (λ r. None) (λ _. refl)) (λ _. tt) (s.bounds.words t) (λ _. since) s.bounds;
+          inv = inv_release f g t false (newly_committed (g t)) below (leaves_kept (g t) act (s.inv.shape t)) s.inv;
+          left = left_put g t (newly_committed (g t)) s.left (λ _. omega (arith, active_unwritten (g t) (s.inv.shape t) act, some));
+          bounds = bounds_put c _ t (newly_committed (g t)) refl (size_none (λ r. None) (λ _. refl)) (λ _. tt) (s.bounds.words t) (λ _. since) s.bounds;
         }
 
     module _ (r : ℕ) (small : r < 64) (free : (f r).mode ≡ Write → gone (g (f r).thread).status ≡ true) where

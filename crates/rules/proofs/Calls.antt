@@ -11,14 +11,14 @@ use Rattle.decline.specs.declared.Decline.{Decline}
 use Rattle.policy.specs.declared.orec.Mode.TheVariants.{Write}
 use Rattle.policy.specs.declared.orec.OwnershipRecord.{OwnershipRecord}
 use Rattle.rules.specs.declared.descriptor.Status.TheVariants.{Aborted, Active}
-use Rattle.rules.specs.Accessing.{performed}
-use Rattle.rules.specs.Changes.{aborted_by, ended_by, kept_by, read_by, written_by}
+use Rattle.rules.specs.Accessing.{served}
+use Rattle.rules.specs.Changes.{aborted_by, ended_by, committed_by, read_by, written_by}
 use Rattle.rules.specs.Contention.{acquired, takes, waits_for}
 use Rattle.rules.specs.Ledger.{Ledger, feed, joined}
 use Rattle.rules.specs.Logical.{logical}
 use Rattle.rules.specs.Machine.{Machine, copied, on}
 use Rattle.rules.specs.Next.{next}
-use Rattle.rules.specs.Outcome.{as_answer, committed, declined, fault_in, ran}
+use Rattle.rules.specs.Outcome.{as_answer, to_write_back, declined, fault_in, ran}
 use Rattle.rules.specs.Policy.{Laws, Policy}
 use Rattle.rules.specs.Replay.{Answered, Replays, replayed}
 use Rattle.rules.specs.Request.{Request, access, begin, cancel, commit, hardware, write_back}
@@ -36,7 +36,7 @@ use Rattle.rules.proofs.Hard.{alike, good_hardware}
 use Rattle.rules.proofs.Kept.{room_to_write}
 use Rattle.rules.proofs.Machines.{abort, finish}
 use Rattle.rules.proofs.Moves.{good_abort, good_open, pends_none, same_abort, turn_abort}
-use Rattle.rules.proofs.Performed.{Post, post_performed, post_take}
+use Rattle.rules.proofs.Served.{Post, post_served, post_take}
 use Rattle.rules.proofs.Release.{owned_is}
 use Rattle.rules.proofs.Replaying.{Follows, follows_on, touched}
 use Rattle.rules.proofs.Sets.{valid_reads}
@@ -73,10 +73,10 @@ module _ {V : Type 0} (P : Policy V) (laws : Laws P.rules) (m : Machine V) (l : 
     below = ad.standing.below
 
     -- the orec is the transaction's own already
-    held : takes w t (g t) r (f r) ≡ false → Post P (access t o) l (performed P t o m)
+    held : takes w t (g t) r (f r) ≡ false → Post P (access t o) l (served P t o m)
     held h =
         let c = or_cases (owns_to_write t (g t).version (f r)) (not w && is_some ((g t).reads r)) (not-false (owns_to_write t (g t).version (f r) || (not w && is_some ((g t).reads r))) h) in
-        post_performed P m l t o good below act (surely t ad.standing)
+        post_served P m l t o good below act (surely t ad.standing)
         (⊎_elim (λ z. or_left (owns_to_write t (g t).version (f r)) (is_some ((g t).reads r)) z)
         (λ z. or_right (owns_to_write t (g t).version (f r)) (is_some ((g t).reads r)) (and_parts (not w) (is_some ((g t).reads r)) z).1) c)
         (λ e. ⊎_elim (λ z. (owned_is t (g t).version (f r) z).1)
@@ -89,7 +89,7 @@ module _ {V : Type 0} (P : Policy V) (laws : Laws P.rules) (m : Machine V) (l : 
       q = (f r).thread
 
       abbrev Taken : State → Type 0
-      Taken c = Post P (access t o) l (performed P t o (on (λ _. cond w (written_by t r c) (read_by t r c)) m))
+      Taken c = Post P (access t o) l (served P t o (on (λ _. cond w (written_by t r c) (read_by t r c)) m))
 
       -- from an active owner that does not precede
       taken_from_owner : (f r).mode ≡ Write → q < 16 → (g q).status ≡ Active → Taken (aborted_by q m.state)
@@ -106,7 +106,7 @@ module _ {V : Type 0} (P : Policy V) (laws : Laws P.rules) (m : Machine V) (l : 
           (laws.orec_below o.word ad.word) (λ x. ap (λ d. is_some (d.reads r)) s ∙ unread P m good.inv t w r h x)
           (λ x. subst (λ d. has o.word d.writes ≡ false → length d.writes < 32) (sym s) (room_to_write P m t o ad x))
 
-      taken : Post P (access t o) l (performed P t o (on (acquired w t r) m))
+      taken : Post P (access t o) l (served P t o (on (acquired w t r) m))
       taken =
           cleared_ways P m good.inv t w r h n Taken taken_from_owner
           (λ free. post_take P m l t o good below act (surely t ad.standing) free (laws.orec_below o.word ad.word)
@@ -134,11 +134,11 @@ module _ {V : Type 0} (P : Policy V) (laws : Laws P.rules) (m : Machine V) (l : 
         ∙ sym ((surely t s).views tt b)
         ∙ replayed_frame P.arithmetic (λ _. true) (logical m) l.figures es (λ q _. good.figures q) all_true b refl
 
-    ended_now : length (g t).writes ≡ 0 → Post P (commit t) l (committed (length (g t).writes), on (ended_by t) m)
+    ended_now : length (g t).writes ≡ 0 → Post P (commit t) l (to_write_back (length (g t).writes), on (ended_by t) m)
     ended_now z =
         (good_finish P m l good t s.below l₁ (λ b. pends_none (g t) b (ap is_committed s.active)) (same z) (λ _ _. refl), λ _. replies)
 
-    committed_now : (length (g t).writes ≡ 0 → ⊥) → Post P (commit t) l (committed (length (g t).writes), on (kept_by t) m)
+    committed_now : (length (g t).writes ≡ 0 → ⊥) → Post P (commit t) l (to_write_back (length (g t).writes), on (committed_by t) m)
     committed_now z = (good_keep P m l good t s.below s.active (surely t s), λ _. replies)
 
   pub post_next : (c : Request V) → Post P c l (next P m c)

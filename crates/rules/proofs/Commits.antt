@@ -8,8 +8,8 @@ use Rattle.stock.specs.declared.fault.StockFault.{StockFault}
 use Rattle.decline.specs.declared.Decline.{Decline}
 use Rattle.meaning.specs.Store.{put}
 use Rattle.rules.specs.declared.descriptor.Status.TheVariants.{Aborted}
-use Rattle.rules.specs.Accessing.{answered, performed, seen}
-use Rattle.rules.specs.Changes.{aborted_by, ended_by, kept, newly_begun, read_by, written_by}
+use Rattle.rules.specs.Accessing.{given, served, seen}
+use Rattle.rules.specs.Changes.{aborted_by, ended_by, newly_committed, newly_begun, read_by, written_by}
 use Rattle.rules.specs.Contention.{acquired, takes, waits_for}
 use Rattle.rules.specs.Course.{told}
 use Rattle.rules.specs.Machine.{Machine, on, with_redo}
@@ -53,10 +53,10 @@ module _ {V : Type 0} (P : Policy V) (m : Machine V) (st : Steady m.state) (w : 
   same_part t c d e k s =
       put_at c.descriptors t s d (λ x. is_committed x.status ≡ w s) (λ j. ap is_committed e ∙ k t ∙ ap w (sym j)) (λ _. k s)
 
-  performed_same : (t : ℕ) (a : Access V) (m' : Machine V) → Same m'.state → Agrees (access t a) (performed P t a m')
-  performed_same t a m' k = by (answer P.arithmetic (seen t m') a)
+  served_same : (t : ℕ) (a : Access V) (m' : Machine V) → Same m'.state → Agrees (access t a) (served P t a m')
+  served_same t a m' k = by (answer P.arithmetic (seen t m') a)
     where
-      by : (x : Result V StockFault) → Agrees (access t a) (answered t a.word (writing_access a) x m')
+      by : (x : Result V StockFault) → Agrees (access t a) (given t a.word (writing_access a) x m')
       by (Ok v) =
           cond_both (writing_access a) (with_redo t a.word v m') m' (λ n. Same n.state) (λ _. same_part t m'.state _ refl k) (λ _. k)
       by (Err e) = k
@@ -78,14 +78,14 @@ module _ {V : Type 0} (P : Policy V) (m : Machine V) (st : Steady m.state) (w : 
       (λ _ idl _ _. keeps t (newly_begun t class (m.state.begins + 1) ((g t).version + 1)) (sym (ap is_committed idl)))
   agrees_next (access t a) =
       access_ways P m (Agrees (access t a)) (stays (access t a)) t (ends (access t a)) a (λ _ _ _ _. agree)
-      (λ _ _. performed_same t a m agree)
-      (λ _ lacks free. performed_same t a (on (acquired (writing_access a) t (P.rules.orec_of a.word)) m)
+      (λ _ _. served_same t a m agree)
+      (λ _ lacks free. served_same t a (on (acquired (writing_access a) t (P.rules.orec_of a.word)) m)
       (acquired_same t (writing_access a) (P.rules.orec_of a.word) lacks free))
   agrees_next (commit t) =
       let n = length (g t).writes in
       commit_ways P m (Agrees (commit t)) (stays (commit t)) t (ends (commit t))
       (λ _ none. tells t (idle (g t).version) (ltb 0 n) (sym (ap (ltb 0) none)))
-      (λ _ some. tells t (kept (g t)) (ltb 0 n) (sym (lt-ltb 0 n (omega (arith, some)))))
+      (λ _ some. tells t (newly_committed (g t)) (ltb 0 n) (sym (lt-ltb 0 n (omega (arith, some)))))
   agrees_next (write_back t) =
       let left = length (g t).writes - ((g t).written_back + 1) in
       let d : Descriptor = with_written_back ((g t).written_back + 1) (g t) in

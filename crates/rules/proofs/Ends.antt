@@ -3,7 +3,7 @@ use Rattle.std.proofs.Common.{◌≡◌, ℕ, ◌+◌, ◌*◌, ◌<◌, Bool, t
 use Rattle.meaning.specs.Store.{put}
 use Rattle.policy.specs.declared.orec.OwnershipRecord.{OwnershipRecord}
 use Rattle.rules.proofs.Machines.{finish, keep}
-use Rattle.rules.specs.Changes.{kept}
+use Rattle.rules.specs.Changes.{newly_committed}
 use Rattle.rules.specs.Ledger.{Ledger}
 use Rattle.rules.specs.Logical.{logical, pends}
 use Rattle.rules.specs.Machine.{Machine}
@@ -92,7 +92,7 @@ module _ {V : Type 0} (P : Policy V) (m : Machine V) (l : Ledger V) (good : Good
 
   module _ (act : (g t).status ≡ Active) (sure : Follows P (Unit {0}) m t (l.accesses t)) where
     abbrev d₃ : Descriptor
-    d₃ = kept (g t)
+    d₃ = newly_committed (g t)
 
     abbrev m₃ : Machine V
     m₃ = keep t m

@@ -9,7 +9,7 @@ use Rattle.decline.specs.declared.Decline.{Decline}
 use Rattle.policy.specs.declared.orec.Mode.TheVariants.{Write}
 use Rattle.policy.specs.declared.orec.OwnershipRecord.{OwnershipRecord}
 use Rattle.rules.specs.declared.descriptor.Status.TheVariants.{Aborted, Active}
-use Rattle.rules.specs.Accessing.{answered, performed, seen}
+use Rattle.rules.specs.Accessing.{given, served, seen}
 use Rattle.rules.specs.Changes.{aborted_by, ended_by, read_by, written_by}
 use Rattle.rules.specs.Contention.{acquired, takes, waits_for}
 use Rattle.rules.specs.Machine.{Machine, on, with_redo}
@@ -77,14 +77,14 @@ module _ {V : Type 0} (P : Policy V) (laws : Laws P.rules) (m : Machine V) (st :
     abbrev below : t < 16
     below = ad.standing.below
 
-    performed_sound :
+    served_sound :
         (m' : Machine V) → Steady m'.state → (m'.state.descriptors t).status ≡ Active →
         (wr ≡ true → has a.word (m'.state.descriptors t).writes ≡ false → length (m'.state.descriptors t).writes < 32) →
-        Fine (performed P t a m')
-    performed_sound m' s act room =
+        Fine (served P t a m')
+    served_sound m' s act room =
         by (answer P.arithmetic (seen t m') a)
       where
-        by : (x : Result V StockFault) → Fine (answered t a.word wr x m')
+        by : (x : Result V StockFault) → Fine (given t a.word wr x m')
         by (Ok v) =
             cond_both wr (with_redo t a.word v m') m' (λ n. Steady n.state)
             (λ e. state_listed m'.state t below act s a.word ad.word (room e)) (λ _. s)
@@ -95,25 +95,25 @@ module _ {V : Type 0} (P : Policy V) (laws : Laws P.rules) (m : Machine V) (st :
       taken_sound :
           (c : State) → Steady c → c.descriptors t ≡ g t →
           ((c.orecs r).mode ≡ Write → gone (c.descriptors (c.orecs r).thread).status ≡ true) →
-          Fine (performed P t a (on (λ _. cond wr (written_by t r c) (read_by t r c)) m))
+          Fine (served P t a (on (λ _. cond wr (written_by t r c) (read_by t r c)) m))
       taken_sound c s same free =
           let small = laws.orec_below a.word ad.word in
           let act : (c.descriptors t).status ≡ Active = ap (λ x. x.status) same ∙ ad.standing.active in
-          cond_both wr (written_by t r c) (read_by t r c) (λ x. Fine (performed P t a (on (λ _. x) m)))
-          (λ k. performed_sound (on (λ _. written_by t r c) m) (state_written c t below act s r small free)
+          cond_both wr (written_by t r c) (read_by t r c) (λ x. Fine (served P t a (on (λ _. x) m)))
+          (λ k. served_sound (on (λ _. written_by t r c) m) (state_written c t below act s r small free)
           (ap (λ x. x.status) (put_same c.descriptors t _) ∙ act)
           (λ i. subst (λ x. has a.word x.writes ≡ false → length x.writes < 32) (sym (put_same c.descriptors t _))
           (subst (λ x. has a.word x.writes ≡ false → length x.writes < 32) (sym same) (room_to_write P m t a ad i))))
-          (λ k. performed_sound (on (λ _. read_by t r c) m)
+          (λ k. served_sound (on (λ _. read_by t r c) m)
           (state_read c t below act s r small free
           (ap (λ x. is_some (x.reads r)) same ∙ unread P m st.inv t wr r lacks k)
           (subst (λ x. size x.reads < 32) (sym same) (room_to_read P m t a ad k lacks)))
           (ap (λ x. x.status) (put_same c.descriptors t _) ∙ act)
           (λ i. never wr i k))
 
-      acquired_sound : waits_for P.rules.precedes wr (g t) r m.state ≡ None → Fine (performed P t a (on (acquired wr t r) m))
+      acquired_sound : waits_for P.rules.precedes wr (g t) r m.state ≡ None → Fine (served P t a (on (acquired wr t r) m))
       acquired_sound free =
-          cleared_ways P m st.inv t wr r lacks free (λ c. Fine (performed P t a (on (λ _. cond wr (written_by t r c) (read_by t r c)) m)))
+          cleared_ways P m st.inv t wr r lacks free (λ c. Fine (served P t a (on (λ _. cond wr (written_by t r c) (read_by t r c)) m)))
           (λ e small act.
           let q = (f r).thread in
           taken_sound (aborted_by q m.state) (state_aborted m.state q small act st)
@@ -126,7 +126,7 @@ module _ {V : Type 0} (P : Policy V) (laws : Laws P.rules) (m : Machine V) (st :
       begin_ways P m Fine stays t class (λ below idl few left. state_begun m.state t below class few idl left st)
   next_sound (access t a) =
       access_ways P m Fine stays t (ends t) a (λ _ _ _ _. st)
-      (λ ad _. performed_sound t a ad m st ad.standing.active (room_to_write P m t a ad))
+      (λ ad _. served_sound t a ad m st ad.standing.active (room_to_write P m t a ad))
       (acquired_sound t a)
   next_sound (commit t) =
       commit_ways P m Fine stays t (ends t) (λ s _. state_ended m.state t s.below st)

@@ -20,10 +20,10 @@ pub mod Modes
 pub mod Moves
 pub mod Order
 pub mod Parts
-pub mod Performed
 pub mod Places
 pub mod Release
 pub mod Replaying
+pub mod Served
 pub mod Sets
 pub mod Take
 pub mod Told

@@ -1,6 +1,6 @@
 -- Changes of the control state, as changes of a whole memory.
 use Rattle.std.proofs.Common.{ℕ}
-use Rattle.rules.specs.Changes.{aborted_by, begun_by, ended_by, kept_by, read_by, written_by}
+use Rattle.rules.specs.Changes.{aborted_by, begun_by, ended_by, committed_by, read_by, written_by}
 use Rattle.rules.specs.Machine.{Machine, on}
 
 module _ {V : Type 0} where
@@ -20,4 +20,4 @@ module _ {V : Type 0} where
   take_write t r = on (written_by t r)
 
   abbrev pub keep : ℕ → Machine V → Machine V
-  keep t = on (kept_by t)
+  keep t = on (committed_by t)

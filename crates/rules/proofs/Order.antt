@@ -13,8 +13,8 @@ use Rattle.policy.specs.declared.orec.Mode.TheVariants.{Free, Read, Write}
 use Rattle.policy.specs.declared.orec.OwnershipRecord.{OwnershipRecord}
 use Rattle.rules.specs.declared.descriptor.Seen.{Seen}
 use Rattle.rules.specs.declared.descriptor.Status.TheVariants.{Aborted, Active}
-use Rattle.rules.specs.Accessing.{answered, performed, seen}
-use Rattle.rules.specs.Changes.{begun_by, ended_by, kept_by, read_by, written_by, exclusive, kept, newly_begun, shared}
+use Rattle.rules.specs.Accessing.{given, served, seen}
+use Rattle.rules.specs.Changes.{begun_by, ended_by, committed_by, read_by, written_by, exclusive, newly_committed, newly_begun, shared}
 use Rattle.rules.specs.Contention.{acquired, takes, waits_for}
 use Rattle.rules.specs.Machine.{Machine, copied, with_redo, on}
 use Rattle.rules.specs.Next.{next}
@@ -153,8 +153,8 @@ module _ {V : Type 0} (P : Policy V) (laws : Laws P.rules) (m : Machine V) (st :
     way s h = (t, a, refl, active_says P m t ad.standing.below act, h)
 
     -- an answer changes no more than t's write set and redo values
-    just_performed : (m' : Machine V) → Calm c m' → Just c (performed P t a m')
-    just_performed m' k = by (answer P.arithmetic (seen t m') a)
+    just_served : (m' : Machine V) → Calm c m' → Just c (served P t a m')
+    just_served m' k = by (answer P.arithmetic (seen t m') a)
       where
         drafts : (v : V) → Calm c (with_redo t a.word v m')
         drafts v = (
@@ -164,7 +164,7 @@ module _ {V : Type 0} (P : Policy V) (laws : Laws P.rules) (m : Machine V) (st :
               (ap (λ d. has_orec b s d i (m'.state.orecs i)) (sym (put_other m'.state.descriptors t s _ (λ y. n (sym y)))) ∙ j)),
         )
 
-        by : (x : Result V StockFault) → Just c (answered t a.word w x m')
+        by : (x : Result V StockFault) → Just c (given t a.word w x m')
         by (Ok v) = (cond_both w (with_redo t a.word v m') m' (Calm c) (λ _. drafts v) (λ _. k), λ _ _ e. omega (arith, e))
         by (Err e) = (k, λ _ _ e. omega (arith, e))
 
@@ -295,12 +295,12 @@ module _ {V : Type 0} (P : Policy V) (laws : Laws P.rules) (m : Machine V) (st :
   just_next (access t a) =
       access_ways P m (Just (access t a)) (stays (access t a)) t (ends (access t a)) a
       (λ ad lacks q e. (calm_same (access t a), λ first none _. never_waits t a ad lacks q e first none))
-      (λ ad _. just_performed t a ad m (calm_same (access t a)))
-      (λ ad lacks free. just_performed t a ad (on (acquired (writing_access a) t (P.rules.orec_of a.word)) m) (calm_acquired t a ad lacks free))
+      (λ ad _. just_served t a ad m (calm_same (access t a)))
+      (λ ad lacks free. just_served t a ad (on (acquired (writing_access a) t (P.rules.orec_of a.word)) m) (calm_acquired t a ad lacks free))
   just_next (commit t) =
       commit_ways P m (Just (commit t)) (stays (commit t)) t (ends (commit t)) (λ s _. (calm_ended (commit t) s.below, λ _ _ e. omega (arith, e)))
       (λ s _. (
-        calm_by (commit t) (on (kept_by t) m) (kept (g t)) (λ _. refl) (λ e. false≢true (ap is_aborted e)) (keeps_release t s.below false),
+        calm_by (commit t) (on (committed_by t) m) (newly_committed (g t)) (λ _. refl) (λ e. false≢true (ap is_aborted e)) (keeps_release t s.below false),
         λ _ _ e. omega (arith, e),
       ))
   just_next (write_back t) =

@@ -5,7 +5,7 @@ use Rattle.policy.specs.declared.orec.Mode.{Mode}
 use Rattle.policy.specs.declared.orec.Mode.TheVariants.{Free, Read, Write}
 use Rattle.policy.specs.declared.orec.OwnershipRecord.{OwnershipRecord}
 use Rattle.rules.specs.ReadSet.{pair, reads_it, valid_snapshot}
-use Rattle.rules.specs.Changes.{kept}
+use Rattle.rules.specs.Changes.{newly_committed}
 use Rattle.rules.specs.Release.{freed, lowered, unread}
 use Rattle.rules.specs.Sound.{Dead, Each, Owned, Snap, gone, readers_of}
 use Rattle.rules.specs.State.{Descriptor, idle, owns_to_write}
@@ -84,7 +84,7 @@ leaves_idle d =
     }
 
 -- and one is committed
-pub leaves_kept : (d : Descriptor) → d.status ≡ Active → Shape d → Released false d (kept d)
+pub leaves_kept : (d : Descriptor) → d.status ≡ Active → Shape d → Released false d (newly_committed d)
 leaves_kept d act s =
     record {
       version_same = refl;

@@ -20,13 +20,13 @@ use Rattle.policy.specs.declared.orec.Mode.TheVariants.{Write}
 use Rattle.policy.specs.declared.orec.OwnershipRecord.{OwnershipRecord}
 use Rattle.hardware.specs.Path.{shapes}
 use Rattle.rules.specs.declared.descriptor.Status.TheVariants.{Active, Committed, Idle}
-use Rattle.rules.specs.Accessing.{attempting, performed, proceeding}
-use Rattle.rules.specs.Changes.{aborted_by, begun_by, ended_by, kept_by}
+use Rattle.rules.specs.Accessing.{attempting, served, proceeding}
+use Rattle.rules.specs.Changes.{aborted_by, begun_by, ended_by, committed_by}
 use Rattle.rules.specs.Contention.{acquired, cleared, full, takes, waits_for}
 use Rattle.rules.specs.Hardware.{fitted, gated, launched, outcome_of, unless, passed_on}
 use Rattle.rules.specs.Machine.{Machine, copied, on, with_words}
 use Rattle.rules.specs.Next.{lifted, next}
-use Rattle.rules.specs.Outcome.{Outcome, begun, cancelled, committed, declined, fault_in, ran, wrote_back}
+use Rattle.rules.specs.Outcome.{Outcome, begun, cancelled, to_write_back, declined, fault_in, ran, wrote_back}
 use Rattle.rules.specs.Policy.{Policy, Rules}
 use Rattle.rules.specs.ReadSet.{valid}
 use Rattle.rules.specs.Request.{access, begin, cancel, commit, hardware, write_back}
@@ -134,11 +134,11 @@ module _ {V : Type 0} (P : Policy V) (m : Machine V) where
           (λ h₄. granted (below_from t h₁) (active_from (g t).status h₃ h₄))))
 
       pub commit_ways :
-          (Standing t → length (g t).writes ≡ 0 → Q (committed (length (g t).writes), on (ended_by t) m)) →
-          (Standing t → (length (g t).writes ≡ 0 → ⊥) → Q (committed (length (g t).writes), on (kept_by t) m)) →
+          (Standing t → length (g t).writes ≡ 0 → Q (to_write_back (length (g t).writes), on (ended_by t) m)) →
+          (Standing t → (length (g t).writes ≡ 0 → ⊥) → Q (to_write_back (length (g t).writes), on (committed_by t) m)) →
           Q (next P m (commit t))
       commit_ways done keeps =
-          let K = λ (y : Result ℕ Decline × State). Q (lifted committed m y) in
+          let K = λ (y : Result ℕ Decline × State). Q (lifted to_write_back m y) in
           let n = length (g t).writes in
           cond_both (ltb 15 t) _ _ K (λ _. stays decline.UnknownThread [] (refl, omega arith))
           (λ h₁. cond_both (is_idle (g t).status || is_committed (g t).status) _ _ K (λ _. stays decline.WrongStatus [] (refl, omega arith))
@@ -148,7 +148,7 @@ module _ {V : Type 0} (P : Policy V) (m : Machine V) where
           cond_both (not (valid f (g t).reads)) _ _ K
           (λ _. ends decline.SnapshotInvalid (refl, omega arith) (below_from t h₁) (ap is_committed act))
           (λ h. let s : Standing t = record { below = below_from t h₁; active = act; current = not-false (valid f (g t).reads) h } in
-          cond_both (eqb n 0) (ended_by t m.state) (kept_by t m.state) (λ c. Q (committed n, on (λ _. c) m))
+          cond_both (eqb n 0) (ended_by t m.state) (committed_by t m.state) (λ c. Q (to_write_back n, on (λ _. c) m))
           (λ e. done s (eqb-true n 0 e)) (λ e. keeps s (eqb-false n 0 e))))))
 
       module _ (a : Access V) where
@@ -159,8 +159,8 @@ module _ {V : Type 0} (P : Policy V) (m : Machine V) where
         w = writing_access a
 
         module _ (waits : Admitted t a → takes w t (g t) r (f r) ≡ true → (q : ℕ) → waits_for P.rules.precedes w (g t) r m.state ≡ Some q → Q (declined (decline.Wait q) [], m))
-            (has : Admitted t a → takes w t (g t) r (f r) ≡ false → Q (performed P t a m))
-            (gets : Admitted t a → takes w t (g t) r (f r) ≡ true → waits_for P.rules.precedes w (g t) r m.state ≡ None → Q (performed P t a (on (acquired w t r) m))) where
+            (has : Admitted t a → takes w t (g t) r (f r) ≡ false → Q (served P t a m))
+            (gets : Admitted t a → takes w t (g t) r (f r) ≡ true → waits_for P.rules.precedes w (g t) r m.state ≡ None → Q (served P t a (on (acquired w t r) m))) where
           proceeding_ways : Standing t → a.word < 4096 → Q (proceeding P t a m)
           proceeding_ways s small =
               let taking = takes w t (g t) r (f r) in

@@ -26,7 +26,7 @@ use Rattle.rules.proofs.Masks.{mask_beyond, mask_bit, readers_shown}
 use Rattle.rules.proofs.Modes.{committed_status_is}
 use Rattle.rules.proofs.Order.{Just, has_orec, just_next}
 use Rattle.rules.proofs.Parts.{sound_from, under_way_none}
-use Rattle.rules.proofs.Performed.{Post}
+use Rattle.rules.proofs.Served.{Post}
 use Rattle.rules.proofs.Told.{aborted_is, aborted_says, active_is, active_says}
 use Rattle.rules.proofs.Turn.{Good}
 

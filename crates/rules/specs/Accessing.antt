@@ -1,7 +1,7 @@
 -- access: one access of a software transaction.
 --   seen         what t sees at a word: its own redo value, else the word
---   answered     a value is answered, and of a writing access becomes the redo value; a stock fault leaves what was taken
---   performed    the access on what t sees
+--   given        a value is answered, and of a writing access becomes the redo value; a stock fault leaves what was taken
+--   served       the access on what t sees
 --   proceeding   room in the sets, then waiting, then taking, then the value
 --   attempting   an access of an active transaction: kind, word and snapshots first
 --   accessing    the whole call: thread, numbers lent and status first
@@ -31,13 +31,13 @@ module _ {V : Type 0} where
       let d = m.state.descriptors t in
       cond (has b d.writes) (m.redo (slot t (place b d.writes))) (m.words b)
 
-  abbrev pub answered : ℕ → ℕ → Bool → Result V StockFault → Machine V → Outcome V × Machine V
-  answered t b writing (Ok v) m = (accessed v, cond writing (with_redo t b v m) m)
-  answered t b writing (Err f) m = (declined (Stock (alone f)) [], m)
+  abbrev pub given : ℕ → ℕ → Bool → Result V StockFault → Machine V → Outcome V × Machine V
+  given t b writing (Ok v) m = (accessed v, cond writing (with_redo t b v m) m)
+  given t b writing (Err f) m = (declined (Stock (alone f)) [], m)
 
-  abbrev pub performed : Policy V → ℕ → Access V → Machine V → Outcome V × Machine V
-  performed P t a m =
-      answered t a.word (writing_access a) (answer P.arithmetic (seen t m) a) m
+  abbrev pub served : Policy V → ℕ → Access V → Machine V → Outcome V × Machine V
+  served P t a m =
+      given t a.word (writing_access a) (answer P.arithmetic (seen t m) a) m
 
   abbrev pub proceeding : Policy V → ℕ → Access V → Machine V → Outcome V × Machine V
   proceeding P t a m =
@@ -48,8 +48,8 @@ module _ {V : Type 0} where
       cond (full writing taking a.word d) (declined SetFull [], m)
       (cond taking
       (by_option (waits_for P.rules.precedes writing d r m.state) (λ q. (declined (Wait q) [], m))
-      (performed P t a (on (acquired writing t r) m)))
-      (performed P t a m))
+      (served P t a (on (acquired writing t r) m)))
+      (served P t a m))
 
   abbrev pub attempting : Policy V → ℕ → Access V → Machine V → Outcome V × Machine V
   attempting P t a m =

@@ -1,16 +1,17 @@
 -- The elementary changes of a control state.
---   shared        an orec with one reader more: thread and version stay
---   exclusive     an orec in write mode for thread t at version v
---   newly_begun   the descriptor of a transaction that has just begun
---   kept          a descriptor that is committed with something to write back: nothing read any more
---   begun_by      t begins: the next version and start number, both sets empty
---   aborted_by    t's transaction is aborted, and keeps what it has
---   read_by       t takes the orec r to read, and notes a snapshot of it
---   written_by    t takes the orec r to write, and its own snapshot of r is gone
---   listed_by     the word b is among those that t has written
---   kept_by       t is committed with something to write back, and releases what it has read
---   backed_by     one more of t's words is written back
---   ended_by      t's transaction ends
+--   shared            an orec with one reader more: thread and version stay
+--   exclusive         an orec in write mode for thread t at version v
+--   newly_begun       the descriptor of a transaction that has just begun
+--   newly_committed   a descriptor that is committed with something to write back: nothing read any more
+--   with_descriptor   another descriptor for t; all else stays
+--   begun_by          t begins: the next version and start number, both sets empty
+--   aborted_by        t's transaction is aborted, and keeps what it has
+--   read_by           t takes the orec r to read, and notes a snapshot of it
+--   written_by        t takes the orec r to write, and its own snapshot of r is gone
+--   listed_by         the word b is among those that t has written
+--   committed_by      t is committed with something to write back, and releases what it has read
+--   backed_by         one more of t's words is written back
+--   ended_by          t's transaction ends
 use Rattle.std.specs.Prelude.{ℕ, ◌+◌, cond, [], Some, None}
 use Rattle.meaning.specs.Store.{put}
 use Rattle.policy.specs.declared.orec.Mode.TheVariants.{Read, Write}
@@ -39,10 +40,9 @@ newly_begun t class start v =
       written_back = 0;
     }
 
-abbrev pub kept : Descriptor → Descriptor
-kept d = with_status Committed (with_reads (λ r. None) d)
+abbrev pub newly_committed : Descriptor → Descriptor
+newly_committed d = with_status Committed (with_reads (λ r. None) d)
 
--- another descriptor for t, all else as it was
 abbrev pub with_descriptor : ℕ → Descriptor → State → State
 with_descriptor t d c = record { orecs = c.orecs; descriptors = put c.descriptors t d; begins = c.begins }
 
@@ -76,10 +76,10 @@ written_by t r c =
 abbrev pub listed_by : ℕ → ℕ → State → State
 listed_by t b c = let d = c.descriptors t in with_descriptor t (with_writes (with b d.writes) d) c
 
-abbrev pub kept_by : ℕ → State → State
-kept_by t c =
+abbrev pub committed_by : ℕ → State → State
+committed_by t c =
     let d = c.descriptors t in
-    record { orecs = λ r. unread (d.reads r) (c.orecs r); descriptors = put c.descriptors t (kept d); begins = c.begins }
+    record { orecs = λ r. unread (d.reads r) (c.orecs r); descriptors = put c.descriptors t (newly_committed d); begins = c.begins }
 
 abbrev pub backed_by : ℕ → State → State
 backed_by t c = let d = c.descriptors t in with_descriptor t (with_written_back (d.written_back + 1) d) c

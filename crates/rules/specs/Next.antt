@@ -10,7 +10,7 @@ use Rattle.rules.specs.Cancel.{cancelling}
 use Rattle.rules.specs.Commit.{committing}
 use Rattle.rules.specs.Hardware.{running}
 use Rattle.rules.specs.Machine.{Machine, on}
-use Rattle.rules.specs.Outcome.{Outcome, begun, cancelled, committed, declined}
+use Rattle.rules.specs.Outcome.{Outcome, begun, cancelled, to_write_back, declined}
 use Rattle.rules.specs.Policy.{Policy}
 use Rattle.rules.specs.Request.{Request, access, begin, cancel, commit, hardware, write_back}
 use Rattle.rules.specs.State.{State}
@@ -27,7 +27,7 @@ module _ {V : Type 0} where
   abbrev pub next : Policy V → Machine V → Request V → Outcome V × Machine V
   next P m (begin t class) = lifted begun m (beginning t class m.state)
   next P m (access t a) = accessing P t a m
-  next P m (commit t) = lifted committed m (committing t m.state)
+  next P m (commit t) = lifted to_write_back m (committing t m.state)
   next P m (write_back t) = writing_back t m
   next P m (cancel t) = lifted (λ _. cancelled) m (cancelling t m.state)
   next P m (hardware t works os ys) = running P t works os ys m

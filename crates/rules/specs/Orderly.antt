@@ -1,6 +1,8 @@
 -- The third law of every run: a transaction gives way only to one that precedes it, and the foremost waits only for write-backs.
---   Loses     one of the two ownership numbers of s, told by its bits, has a bit set before and not after
---   Orderly   the law
+--   Loses        one of the two ownership numbers of s, told by its bits, has a bit set before and not after
+--   Bystander    an active transaction while another thread asks
+--   GivesWayAt   what is asked is an access of an active transaction that precedes it
+--   Orderly      the law
 use Rattle.std.specs.Prelude.{◌≡◌, ℕ, ◌<◌, Bool, true, false, List, ◌≢◌}
 use Rattle.rules.specs.Course.{Moment, after, before, outcome}
 use Rattle.rules.specs.Outcome.{returned}
@@ -14,7 +16,6 @@ abbrev pub Loses : (State → ℕ → ℕ → Bool) → State → State → ℕ 
 Loses has c c' s = (r : ℕ) × (has c s r ≡ true) × (has c' s r ≡ false)
 
 module _ {V : Type 0} (P : Policy V) (ws ds : List V) (requests : List (Request V)) where
-  -- at the moment q, s is active and the request is another thread's
   abbrev pub Bystander : Moment requests → ℕ → Type 0
   Bystander q s = (caller q.request ≢ s) × IsActive P (before P ws ds requests q).memory s
 

@@ -1,5 +1,5 @@
 -- What a memory answers.
---   Outcome      by call: a version; a value; the words to write back; the word written back and how many are left; cancelled;
+--   Outcome      by call: a version; a value; how many words are to be written back, after a commit; the word written back and how many are left; cancelled;
 --                the answers of a hardware transaction; or a decline, with the answers that a hardware transaction leaves
 --   fault_in     the stock fault that a decline carries
 --   as_answer    a stock fault as the answer to an access
@@ -17,7 +17,7 @@ use Rattle.decline.specs.Decline.{number_of}
 pub data Outcome (V : Type 0) : Type 0 where
   begun : (version : ℕ) → Outcome V
   accessed : V → Outcome V
-  committed : (words : ℕ) → Outcome V
+  to_write_back : (words : ℕ) → Outcome V
   wrote_back : (word left : ℕ) → Outcome V
   cancelled : Outcome V
   ran : (answers : List V) → Outcome V
@@ -49,7 +49,7 @@ module _ {V : Type 0} where
   abbrev pub returned : Outcome V → ℕ
   returned (begun v) = 0
   returned (accessed v) = 0
-  returned (committed n) = 0
+  returned (to_write_back n) = 0
   returned (wrote_back b n) = 0
   returned cancelled = 0
   returned (ran a) = 0
@@ -58,7 +58,7 @@ module _ {V : Type 0} where
   abbrev pub is_granted : Outcome V → Bool
   is_granted (begun v) = true
   is_granted (accessed v) = true
-  is_granted (committed n) = true
+  is_granted (to_write_back n) = true
   is_granted (wrote_back b n) = true
   is_granted cancelled = true
   is_granted (ran a) = true
@@ -67,7 +67,7 @@ module _ {V : Type 0} where
   abbrev pub answer_in : Outcome V → Option (Result V StockFault)
   answer_in (begun v) = None
   answer_in (accessed v) = Some (Ok v)
-  answer_in (committed n) = None
+  answer_in (to_write_back n) = None
   answer_in (wrote_back b n) = None
   answer_in cancelled = None
   answer_in (ran a) = None
@@ -76,7 +76,7 @@ module _ {V : Type 0} where
   abbrev pub left_in : Outcome V → Option ℕ
   left_in (begun v) = None
   left_in (accessed v) = None
-  left_in (committed n) = Some n
+  left_in (to_write_back n) = Some n
   left_in (wrote_back b n) = Some n
   left_in cancelled = None
   left_in (ran a) = None
@@ -85,7 +85,7 @@ module _ {V : Type 0} where
   abbrev pub in_codes : (V → ℕ) → Outcome V → Outcome ℕ
   in_codes code (begun v) = begun v
   in_codes code (accessed v) = accessed (code v)
-  in_codes code (committed n) = committed n
+  in_codes code (to_write_back n) = to_write_back n
   in_codes code (wrote_back b n) = wrote_back b n
   in_codes code cancelled = cancelled
   in_codes code (ran a) = ran (map code a)

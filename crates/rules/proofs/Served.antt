@@ -5,7 +5,7 @@ use Rattle.meaning.specs.Store.{Store, put}
 use Rattle.policy.specs.declared.orec.Mode.TheVariants.{Write}
 use Rattle.policy.specs.declared.orec.OwnershipRecord.{OwnershipRecord}
 use Rattle.rules.proofs.Machines.{take_read, take_write}
-use Rattle.rules.specs.Accessing.{answered, performed, seen}
+use Rattle.rules.specs.Accessing.{given, served, seen}
 use Rattle.rules.specs.Changes.{exclusive, read_by, shared, written_by}
 use Rattle.rules.specs.ReadSet.{seen_of}
 use Rattle.rules.specs.Ledger.{Ledger, feed}
@@ -52,7 +52,7 @@ module _ {V : Type 0} (P : Policy V) where
         (λ _. ap (λ x. stored F o.word x q) (e ∙ z.1)) (λ _. refl))
         c
 
-    go : (x : Result V StockFault) → answer P.arithmetic (seen t m) o ≡ x → Post (access t o) l (answered t o.word (writing_access o) x m)
+    go : (x : Result V StockFault) → answer P.arithmetic (seen t m) o ≡ x → Post (access t o) l (given t o.word (writing_access o) x m)
     go (Ok v) h =
         cond_both (writing_access o) (with_redo t o.word v m) m (λ m'. Post (access t o) l (accessed v, m'))
         (λ w. (
@@ -72,8 +72,8 @@ module _ {V : Type 0} (P : Policy V) where
               ((sure_note P m l good t below act sure o touch hold (Err n) h s).replays tt),
         )
 
-    pub post_performed : Post (access t o) l (performed P t o m)
-    post_performed = go (answer P.arithmetic (seen t m) o) refl
+    pub post_served : Post (access t o) l (served P t o m)
+    post_served = go (answer P.arithmetic (seen t m) o) refl
 
   -- and one that takes its record first
   module _ (m : Machine V) (l : Ledger V) (t : ℕ) (o : Access V) (good : Good P m l) (below : t < 16)
@@ -98,14 +98,14 @@ module _ {V : Type 0} (P : Policy V) where
 
     pub post_take :
         Post (access t o) l
-        (performed P t o (on (λ c. cond (writing_access o) (written_by t r c) (read_by t r c)) m))
+        (served P t o (on (λ c. cond (writing_access o) (written_by t r c) (read_by t r c)) m))
     post_take =
-        cond_both (writing_access o) (written_by t r m.state) (read_by t r m.state) (λ c. Post (access t o) l (performed P t o (on (λ _. c) m)))
+        cond_both (writing_access o) (written_by t r m.state) (read_by t r m.state) (λ c. Post (access t o) l (served P t o (on (λ _. c) m)))
         (λ w. let ow : owns_to_write t (put g t dw t).version (put f r (exclusive t (g t).version) r) ≡ true =
         ap (λ d. owns_to_write t d.version (put f r (exclusive t (g t).version) r)) (put_same g t dw)
         ∙ ap (owns_to_write t (g t).version) (put_same f r (exclusive t (g t).version))
         ∙ owned_from t (g t).version (exclusive t (g t).version) refl refl refl in
-        post_performed (take_write t r m) l t o (good_take_write P m l good t below act sure r free) below
+        post_served (take_write t r m) l t o (good_take_write P m l good t below act sure r free) below
         (ap (λ d. d.status) (put_same g t dw) ∙ act)
         (sure_take_write P m l good t below act sure r free)
         (or_left (owns_to_write t (put g t dw t).version (put f r (exclusive t (g t).version) r)) (is_some ((put g t dw t).reads r)) ow)
@@ -113,7 +113,7 @@ module _ {V : Type 0} (P : Policy V) where
         (λ _. ow)
         (λ z. subst (λ d. has o.word d.writes ≡ false → length d.writes < 32) (sym (put_same g t dw)) (room z)))
         (λ w. let s = fresh w in
-        post_performed (take_read t r m) l t o (good_take_read P m l good t below act sure r free small s) below
+        post_served (take_read t r m) l t o (good_take_read P m l good t below act sure r free small s) below
         (ap (λ d. d.status) (put_same g t dr) ∙ act)
         (sure_take_read P m l good t below act sure r free small s)
         (or_right (owns_to_write t (put g t dr t).version (put f r (shared (f r)) r)) (is_some ((put g t dr t).reads r))
