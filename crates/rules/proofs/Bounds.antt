@@ -68,7 +68,7 @@ total_up h k (suc n) t l a e =
     below h k zero t l a = refl
     below h k (suc n) t l a = let i = below h k n t (omega arith) a in let j = a n (λ e. omega (arith, e, l)) in omega (arith, i, j)
 
-total_most : (h : ℕ → ℕ) (n k : ℕ) → ((t : ℕ) → h t ≤ k) → total h n ≤ n * k
+pub total_most : (h : ℕ → ℕ) (n k : ℕ) → ((t : ℕ) → h t ≤ k) → total h n ≤ n * k
 total_most h zero k e = omega arith
 total_most h (suc n) k e = omega (arith, total_most h n k e, e n)
 

@@ -1,0 +1,3 @@
+pub mod Begin
+pub mod Facts
+pub mod Tables

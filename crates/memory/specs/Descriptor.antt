@@ -1,0 +1,45 @@
+-- A descriptor as the memory keeps it, and what the rules see of it.
+--   idle_raw        where nothing stands
+--   descriptor_of   what the rules see
+--   begun           of a transaction that begins
+use Rattle.std.specs.Prelude.{ℕ, ◌+◌, [], None, Option, slice_index_or, take, replicate}
+use Rattle.policy.specs.declared.priority.Priority.{Priority}
+use Rattle.rules.specs.declared.descriptor.Seen.{Seen}
+use Rattle.rules.specs.declared.descriptor.Status.TheVariants.{Active, Idle}
+use Rattle.rules.specs.State.{Descriptor}
+use Rattle.memory.specs.declared.descriptor.Descriptor.{Descriptor as Raw}
+
+abbrev pub idle_raw : Raw
+idle_raw =
+    record {
+      status = Idle;
+      version = 0;
+      priority = record { class = 0; start = 0; thread = 0 };
+      reads = [];
+      written = [];
+      writes = 0;
+      written_back = 0;
+    }
+
+abbrev pub descriptor_of : Raw → Descriptor
+descriptor_of d =
+    record {
+      status = d.status;
+      version = d.version;
+      priority = d.priority;
+      reads = λ r. slice_index_or d.reads r None;
+      writes = take d.writes d.written;
+      written_back = d.written_back;
+    }
+
+abbrev pub begun : Raw → ℕ → ℕ → ℕ → Raw
+begun d class start t =
+    record {
+      status = Active;
+      version = d.version + 1;
+      priority = record { class = class; start = start; thread = t };
+      reads = replicate 64 None;
+      written = d.written;
+      writes = 0;
+      written_back = 0;
+    }

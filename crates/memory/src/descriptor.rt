@@ -1,0 +1,37 @@
+// A thread's software transaction, as the memory keeps it.
+ghost use Rattle.std.specs.Prelude.{◌≡◌, ◌<◌};
+ghost use Rattle.memory.specs.Descriptor.{begun};
+
+use policy::priority::Priority;
+use rules::descriptor::{Seen, Status};
+
+// Of `written` the first `writes` words count, and of these the first `written_back` are written back.
+#[derive(Clone, Copy)]
+pub struct Descriptor {
+    pub status: Status,
+    pub version: u32,
+    pub priority: Priority,
+    pub reads: [Option<Seen>; 64],
+    pub written: [u32; 32],
+    pub writes: usize,
+    pub written_back: usize,
+}
+
+impl Descriptor {
+    pub fn begun(self, class: u8, start: u64, thread: u8) -> Descriptor
+        requires version { self.version < 1000000 }
+        ensures { result ≡ begun self class start thread }
+    {
+        let reads = [None; 64];
+        let written = self.written;
+        Descriptor {
+            status: Status::Active,
+            version: self.version + 1,
+            priority: Priority { class, start, thread },
+            reads,
+            written,
+            writes: 0,
+            written_back: 0,
+        }
+    }
+}

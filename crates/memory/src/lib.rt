@@ -1,0 +1,5 @@
+// The memory: ownership records, descriptors and the calls on them.
+#![tactic(auto)]
+
+pub mod descriptor;
+pub mod state;

@@ -1,0 +1,43 @@
+// The control state of a memory.
+ghost use Rattle.rules.specs.Sound.{SoundState};
+ghost use Rattle.memory.specs.State.{state_of};
+
+use crate::descriptor::Descriptor;
+use decline::Decline;
+use policy::orec::OwnershipRecord;
+use rules::descriptor::Status;
+
+pub struct State {
+    records: [OwnershipRecord; 64],
+    descriptors: [Descriptor; 16],
+    begins: u64,
+    ghost sound: { ∥ SoundState (state_of records descriptors begins) ∥₁ },
+}
+
+impl State {
+    ghost use Rattle.std.specs.Prelude.{◌≡◌};
+    ghost use Rattle.rules.specs.Begin.{beginning};
+    ghost use Rattle.memory.specs.Control.{control};
+
+    pub fn begin(&mut self, thread: u8, class: u8) -> Result<u32, Decline>
+        ensures outcome { result ≡ (beginning thread class (control self.old)).0 }
+        ensures state { control self.new ≡ (beginning thread class (control self.old)).1 }
+    {
+        if thread > 15 {
+            return Err(Decline::UnknownThread);
+        }
+        let descriptor = self.descriptors[thread as usize];
+        if descriptor.status != Status::Idle {
+            return Err(Decline::WrongStatus);
+        }
+        if class > 9 {
+            return Err(Decline::UnknownClass);
+        }
+        if descriptor.version == 1_000_000 {
+            return Err(Decline::VersionsSpent);
+        }
+        self.begins += 1;
+        self.descriptors[thread as usize] = descriptor.begun(class, self.begins, thread);
+        Ok(descriptor.version + 1)
+    }
+}
