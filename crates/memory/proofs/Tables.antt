@@ -1,7 +1,7 @@
 -- A list as a table: storing an element changes the table at one number.
-use Rattle.std.proofs.Common.{◌≡◌, ℕ, zero, suc, ◌<◌, eqb, List, length, slice_index_or, slice_set, replicate, None, Option, ap, ◌∙◌, refl}
+use Rattle.std.proofs.Common.{rules, arith, sym, ⊎_elim, cond, ltb, ◌+◌, ◌≡◌, ℕ, zero, suc, ◌<◌, eqb, List, length, slice_index_or, slice_set, replicate, None, Option, ap, ◌∙◌, refl}
 use Rattle.std.proofs.Math.Path.{fun_ext}
-use Rattle.std.proofs.lemmas.Bool.{cond_both, eqb-false, eqb-true}
+use Rattle.std.proofs.lemmas.Bool.{cases_eq, cond-false, cond-true, lt-ltb, le-ltb, cond_both, eqb-false, eqb-true}
 use Rattle.std.proofs.lemmas.List.{get_or-set_other, get_or-set_same}
 use Rattle.meaning.specs.Store.{put}
 
@@ -18,3 +18,29 @@ pub none_there : {X : Type 0} (n r : ℕ) → slice_index_or (replicate {A = Opt
 none_there zero r = refl
 none_there (suc n) zero = refl
 none_there (suc n) (suc r) = none_there n r
+
+-- of a table that is changed in place, the elements below a number are changed and the others are as they were
+module _ {X : Type 0} (z : X) (f : ℕ → X → X) (old : List X) where
+  abbrev pub ChangedBelow : ℕ → List X → Type 0
+  ChangedBelow n now = (q : ℕ) → slice_index_or now q z ≡ cond (ltb q n) (f q (slice_index_or old q z)) (slice_index_or old q z)
+
+  pub changed_none : ChangedBelow 0 old
+  changed_none q = sym (cond-false (ltb q 0) _ _ (le-ltb q 0 (omega arith)))
+
+  pub changed_one : (n : ℕ) (now : List X) → n < length now → ChangedBelow n now → ChangedBelow (n + 1) (slice_set now n (f n (slice_index_or now n z)))
+  changed_one n now l h q =
+      ⊎_elim
+      (λ (e : q ≡ n).
+      ap (λ i. slice_index_or (slice_set now n (f n (slice_index_or now n z))) i z) e ∙ get_or-set_same now n (f n (slice_index_or now n z)) z l
+      ∙ ap (f n) (h n ∙ cond-false (ltb n n) _ _ (le-ltb n n (omega arith)))
+      ∙ sym (cond-true (ltb q (n + 1)) _ _ (lt-ltb q (n + 1) (omega (arith, e))) ∙ ap (λ i. f i (slice_index_or old i z)) e))
+      (λ (e : q ≡ n → ⊥).
+      get_or-set_other now n q (f n (slice_index_or now n z)) z e ∙ h q
+      ∙ ap (λ b. cond b (f q (slice_index_or old q z)) (slice_index_or old q z)) (same q n e))
+      (cases_eq q n)
+    where
+      same : (q n : ℕ) → (q ≡ n → ⊥) → ltb q n ≡ ltb q (n + 1)
+      same q n e = search rules
+
+  pub changed_all : (n : ℕ) (now : List X) → ChangedBelow n now → (q : ℕ) → q < n → slice_index_or now q z ≡ f q (slice_index_or old q z)
+  changed_all n now h q l = h q ∙ cond-true (ltb q n) _ _ (lt-ltb q n l)

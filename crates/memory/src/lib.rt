@@ -2,4 +2,5 @@
 #![tactic(auto)]
 
 pub mod descriptor;
+pub mod record;
 pub mod state;
