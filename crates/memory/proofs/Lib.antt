@@ -1,3 +1,4 @@
 pub mod Begin
+pub mod End
 pub mod Facts
 pub mod Tables

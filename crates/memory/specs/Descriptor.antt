@@ -1,6 +1,7 @@
 -- A descriptor as the memory keeps it, and what the rules see of it.
 --   idle_raw        where nothing stands
 --   descriptor_of   what the rules see
+--   idle_at         with no transaction, at a version
 --   begun           of a transaction that begins
 use Rattle.std.specs.Prelude.{ℕ, ◌+◌, [], None, Option, slice_index_or, take, replicate}
 use Rattle.policy.specs.declared.priority.Priority.{Priority}
@@ -30,6 +31,18 @@ descriptor_of d =
       reads = λ r. slice_index_or d.reads r None;
       writes = take d.writes d.written;
       written_back = d.written_back;
+    }
+
+abbrev pub idle_at : ℕ → Raw
+idle_at v =
+    record {
+      status = Idle;
+      version = v;
+      priority = record { class = 0; start = 0; thread = 0 };
+      reads = replicate 64 None;
+      written = replicate 32 0;
+      writes = 0;
+      written_back = 0;
     }
 
 abbrev pub begun : Raw → ℕ → ℕ → ℕ → Raw

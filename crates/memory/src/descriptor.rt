@@ -1,6 +1,6 @@
 // A thread's software transaction, as the memory keeps it.
 ghost use Rattle.std.specs.Prelude.{◌≡◌, ◌<◌};
-ghost use Rattle.memory.specs.Descriptor.{begun};
+ghost use Rattle.memory.specs.Descriptor.{begun, idle_at};
 
 use policy::priority::Priority;
 use rules::descriptor::{Seen, Status};
@@ -18,6 +18,22 @@ pub struct Descriptor {
 }
 
 impl Descriptor {
+    pub fn idle(version: u32) -> Descriptor
+        ensures { result ≡ idle_at version }
+    {
+        let reads = [None; 64];
+        let written = [0; 32];
+        Descriptor {
+            status: Status::Idle,
+            version,
+            priority: Priority { class: 0, start: 0, thread: 0 },
+            reads,
+            written,
+            writes: 0,
+            written_back: 0,
+        }
+    }
+
     pub fn begun(self, class: u8, start: u64, thread: u8) -> Descriptor
         requires version { self.version < 1000000 }
         ensures { result ≡ begun self class start thread }

@@ -1,10 +1,10 @@
 // What a transaction has of an ownership record, and what is left of it when it gives it up.
-ghost use Rattle.std.specs.Prelude.{◌≡◌, ℕ, ◌<◌, cond, slice_index_or};
-ghost use Rattle.policy.specs.Orec.{new_record};
+ghost use Rattle.std.specs.Prelude.{◌≡◌, cond};
 ghost use Rattle.rules.specs.ReadSet.{reads_it};
 ghost use Rattle.rules.specs.Release.{freed, lowered, released, unread};
 ghost use Rattle.rules.specs.State.{owns_to_write};
 ghost use Rattle.memory.specs.Descriptor.{descriptor_of};
+ghost use Rattle.memory.specs.State.{orecs_of};
 
 use crate::descriptor::Descriptor;
 use policy::orec::{Mode, OwnershipRecord};
@@ -72,7 +72,7 @@ fn released(
 
 // Gives up whatever the thread's transaction has.
 pub fn release(records: &mut [OwnershipRecord; 64], descriptor: &Descriptor, thread: u8)
-    ensures { (r : ℕ) → r < 64 → slice_index_or records.new r new_record ≡ released thread (descriptor_of descriptor.now) r (slice_index_or records.old r new_record) }
+    ensures { orecs_of records.new ≡ (λ r. released thread (descriptor_of descriptor.now) r (orecs_of records.old r)) }
 {
     for (r, orec) in records.iter_mut().enumerate() {
         *orec = released(*orec, descriptor.reads[r], thread, descriptor.version);

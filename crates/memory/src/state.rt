@@ -3,6 +3,7 @@ ghost use Rattle.rules.specs.Sound.{SoundState};
 ghost use Rattle.memory.specs.State.{state_of};
 
 use crate::descriptor::Descriptor;
+use crate::record::release;
 use decline::Decline;
 use policy::orec::OwnershipRecord;
 use rules::descriptor::Status;
@@ -15,9 +16,40 @@ pub struct State {
 }
 
 impl State {
-    ghost use Rattle.std.specs.Prelude.{◌≡◌};
+    ghost use Rattle.std.specs.Prelude.{◌≡◌, ◌<◌};
+    ghost use Rattle.rules.specs.Cancel.{cancelling};
+    ghost use Rattle.rules.specs.Changes.{ended_by};
     ghost use Rattle.rules.specs.Begin.{beginning};
     ghost use Rattle.memory.specs.Control.{control};
+
+    fn end(&mut self, thread: u8)
+        requires { thread < 16 }
+        ensures { control self.new ≡ ended_by thread (control self.old) }
+    {
+        let version = self.descriptors[thread as usize].version;
+        release(&mut self.records, &self.descriptors[thread as usize], thread);
+        self.descriptors[thread as usize] = Descriptor::idle(version);
+    }
+
+    pub fn cancel(&mut self, thread: u8) -> Result<u8, Decline>
+        ensures outcome { result ≡ (cancelling thread (control self.old)).0 }
+        ensures state { control self.new ≡ (cancelling thread (control self.old)).1 }
+    {
+        if thread > 15 {
+            return Err(Decline::UnknownThread);
+        }
+        match self.descriptors[thread as usize].status {
+            Status::Idle | Status::Committed => Err(Decline::WrongStatus),
+            Status::Aborted => {
+                self.end(thread);
+                Err(Decline::Aborted)
+            }
+            Status::Active => {
+                self.end(thread);
+                Ok(0)
+            }
+        }
+    }
 
     pub fn begin(&mut self, thread: u8, class: u8) -> Result<u32, Decline>
         ensures outcome { result ≡ (beginning thread class (control self.old)).0 }
