@@ -1,4 +1,5 @@
 pub mod Begin
 pub mod End
 pub mod Facts
+pub mod Lowest
 pub mod Tables

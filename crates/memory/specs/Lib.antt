@@ -1,3 +1,4 @@
 pub mod Control
 pub mod Descriptor
 pub mod State
+pub mod Waiting

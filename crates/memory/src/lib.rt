@@ -4,3 +4,4 @@
 pub mod descriptor;
 pub mod record;
 pub mod state;
+pub mod waiting;
