@@ -2,6 +2,7 @@
 #![tactic(auto)]
 
 pub mod descriptor;
+pub mod hybrid;
 pub mod record;
 pub mod state;
 pub mod waiting;
