@@ -1,22 +1,20 @@
 -- What a begin makes of the lists is what the rules make of the state.
-use Rattle.std.proofs.Common.{◌≡◌, ℕ, ◌+◌, ◌<◌, ◌≤◌, false, eqb, [], length, slice_index_or, slice_set, None, Option, List, sym, refl, ap, ◌∙◌, subst, arith}
+use Rattle.std.proofs.Common.{◌≡◌, ℕ, ◌+◌, ◌<◌, ◌≤◌, [], length, slice_index_or, slice_set, Option, List, ap}
 use Rattle.std.proofs.Math.Path.{fun_ext}
-use Rattle.std.proofs.Math.Logic.{∥∥₁_elim, ∥∥₁_map}
 use Rattle.policy.specs.declared.orec.OwnershipRecord.{OwnershipRecord}
 use Rattle.rules.specs.declared.descriptor.Seen.{Seen}
 use Rattle.rules.specs.declared.descriptor.Status.TheVariants.{Active, Idle}
 use Rattle.rules.specs.Changes.{begun_by, newly_begun}
 use Rattle.rules.specs.Sound.{SoundState}
-use Rattle.rules.specs.State.{Descriptor, State}
+use Rattle.rules.specs.State.{State}
 use Rattle.rules.proofs.Bounds.{state_begun}
-use Rattle.rules.proofs.Parts.{sound_from, state_from}
 use Rattle.memory.specs.declared.descriptor.Descriptor.{Descriptor as Raw}
 use Rattle.memory.specs.Descriptor.{begun, descriptor_of, idle_raw}
 use Rattle.memory.specs.State.{state_of}
-use Rattle.meaning.specs.Store.{put}
-use Rattle.memory.proofs.Tables.{none_there, table_set}
+use Rattle.memory.proofs.Kept.{kept, stored}
+use Rattle.memory.proofs.Tables.{none_there}
 
-module _ (os : List OwnershipRecord) (ds : List Raw) (n t class : ℕ) where
+module _ (os : List OwnershipRecord) (ds : List Raw) (n t class : ℕ) (l : t < length ds) where
   abbrev d : Raw
   d = slice_index_or ds t idle_raw
 
@@ -29,13 +27,8 @@ module _ (os : List OwnershipRecord) (ds : List Raw) (n t class : ℕ) where
       (λ (es : ℕ → Option Seen). record { status = Active; version = d.version + 1; priority = record { class = class; start = n + 1; thread = t }; reads = es; writes = []; written_back = 0 })
       (fun_ext (none_there {X = Seen} 64))
 
-  pub begun_state : t < length ds → begun_by t class (state_of os ds n) ≡ after
-  begun_state l =
-      ap
-      (λ (g : ℕ → Descriptor). record { orecs = (state_of os ds n).orecs; descriptors = g; begins = n + 1 })
-      (sym (table_set descriptor_of ds t (begun d class (n + 1) t) idle_raw l ∙ ap (put (state_of os ds n).descriptors t) begun_seen))
+  pub begun_state : begun_by t class (state_of os ds n) ≡ after
+  begun_state = stored os ds (n + 1) t (begun d class (n + 1) t) (newly_begun t class (n + 1) (d.version + 1)) l begun_seen
 
-  pub begun_sound :
-      t < length ds → t < 16 → class ≤ 9 → d.status ≡ Idle → (d.version ≡ 1000000 → ⊥) → ∥ SoundState (state_of os ds n) ∥₁ → ∥ SoundState after ∥₁
-  begun_sound l below few idl v s =
-      ∥∥₁_map s (λ s. subst SoundState (begun_state l) (sound_from (begun_by t class (state_of os ds n)) (state_begun (state_of os ds n) t below class few idl v (state_from (state_of os ds n) s))))
+  pub begun_sound : t < 16 → class ≤ 9 → d.status ≡ Idle → (d.version ≡ 1000000 → ⊥) → ∥ SoundState (state_of os ds n) ∥₁ → ∥ SoundState after ∥₁
+  begun_sound below few idl v = kept (state_of os ds n) (begun_by t class (state_of os ds n)) after begun_state (state_begun (state_of os ds n) t below class few idl v)

@@ -15,17 +15,11 @@ use Rattle.rules.proofs.Parts.{sound_from, state_from}
 use Rattle.memory.specs.declared.descriptor.Descriptor.{Descriptor as Raw}
 use Rattle.memory.specs.Descriptor.{descriptor_of, idle_at, idle_raw}
 use Rattle.memory.specs.State.{descriptors_of, orecs_of, state_of}
-use Rattle.memory.proofs.Tables.{none_there, table_set}
+use Rattle.memory.proofs.Kept.{kept, stored}
+use Rattle.memory.proofs.Tables.{none_there}
 
--- nothing is given up of a new record
-pub released_new : (t : ℕ) (d : Descriptor) (r : ℕ) → released t d r new_record ≡ new_record
-released_new t d r = by (d.reads r)
-  where
-    by : (x : Option Seen) → unread x new_record ≡ new_record
-    by None = refl
-    by (Some e) = refl
-
-module _ (os os' : List OwnershipRecord) (ds : List Raw) (n t : ℕ) where
+module _ (os os' : List OwnershipRecord) (ds : List Raw) (n t : ℕ) (l : t < length ds)
+    (e : orecs_of os' ≡ (λ r. released t (descriptor_of (slice_index_or ds t idle_raw)) r (orecs_of os r))) where
   abbrev d : Raw
   d = slice_index_or ds t idle_raw
 
@@ -38,13 +32,10 @@ module _ (os os' : List OwnershipRecord) (ds : List Raw) (n t : ℕ) where
       (λ (es : ℕ → Option Seen). record { status = (idle 0).status; version = d.version; priority = (idle 0).priority; reads = es; writes = (idle 0).writes; written_back = 0 })
       (fun_ext (none_there {X = Seen} 64))
 
-  pub ended_state : t < length ds → orecs_of os' ≡ (λ r. released t (descriptor_of d) r (orecs_of os r)) → ended_by t (state_of os ds n) ≡ after
-  ended_state l e =
+  pub ended_state : ended_by t (state_of os ds n) ≡ after
+  ended_state =
       ap (λ (f : ℕ → OwnershipRecord). record { orecs = f; descriptors = put (descriptors_of ds) t (idle d.version); begins = n }) (sym e)
-      ∙ ap (λ (g : ℕ → Descriptor). record { orecs = orecs_of os'; descriptors = g; begins = n })
-      (sym (table_set descriptor_of ds t (idle_at d.version) idle_raw l ∙ ap (put (descriptors_of ds) t) idle_seen))
+      ∙ stored os' ds n t (idle_at d.version) (idle d.version) l idle_seen
 
-  pub ended_sound :
-      t < length ds → t < 16 → orecs_of os' ≡ (λ r. released t (descriptor_of d) r (orecs_of os r)) → ∥ SoundState (state_of os ds n) ∥₁ → ∥ SoundState after ∥₁
-  ended_sound l below e s =
-      ∥∥₁_map s (λ s. subst SoundState (ended_state l e) (sound_from (ended_by t (state_of os ds n)) (state_ended (state_of os ds n) t below (state_from (state_of os ds n) s))))
+  pub ended_sound : t < 16 → ∥ SoundState (state_of os ds n) ∥₁ → ∥ SoundState after ∥₁
+  ended_sound below = kept (state_of os ds n) (ended_by t (state_of os ds n)) after ended_state (state_ended (state_of os ds n) t below)

@@ -3,10 +3,11 @@
 --   descriptor_of   what the rules see
 --   idle_at         with no transaction, at a version
 --   begun           of a transaction that begins
+--   aborted         of a transaction that is aborted
 use Rattle.std.specs.Prelude.{ℕ, ◌+◌, [], None, Option, slice_index_or, take, replicate}
 use Rattle.policy.specs.declared.priority.Priority.{Priority}
 use Rattle.rules.specs.declared.descriptor.Seen.{Seen}
-use Rattle.rules.specs.declared.descriptor.Status.TheVariants.{Active, Idle}
+use Rattle.rules.specs.declared.descriptor.Status.TheVariants.{Aborted, Active, Idle}
 use Rattle.rules.specs.State.{Descriptor}
 use Rattle.memory.specs.declared.descriptor.Descriptor.{Descriptor as Raw}
 
@@ -55,4 +56,16 @@ begun d class start t =
       written = d.written;
       writes = 0;
       written_back = 0;
+    }
+
+abbrev pub aborted : Raw → Raw
+aborted d =
+    record {
+      status = Aborted;
+      version = d.version;
+      priority = d.priority;
+      reads = d.reads;
+      written = d.written;
+      writes = d.writes;
+      written_back = d.written_back;
     }

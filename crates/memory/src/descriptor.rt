@@ -26,7 +26,11 @@ impl Descriptor {
         Descriptor {
             status: Status::Idle,
             version,
-            priority: Priority { class: 0, start: 0, thread: 0 },
+            priority: Priority {
+                class: 0,
+                start: 0,
+                thread: 0,
+            },
             reads,
             written,
             writes: 0,
@@ -43,7 +47,11 @@ impl Descriptor {
         Descriptor {
             status: Status::Active,
             version: self.version + 1,
-            priority: Priority { class, start, thread },
+            priority: Priority {
+                class,
+                start,
+                thread,
+            },
             reads,
             written,
             writes: 0,

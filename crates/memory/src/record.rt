@@ -22,9 +22,7 @@ pub fn reads_it(orec: OwnershipRecord, snapshot: Option<Seen>) -> bool
     match snapshot {
         None => false,
         Some(seen) => {
-            orec.mode == Mode::Read
-                && orec.thread == seen.thread
-                && orec.version == seen.version
+            orec.mode == Mode::Read && orec.thread == seen.thread && orec.version == seen.version
         }
     }
 }
@@ -33,7 +31,11 @@ fn lowered(orec: OwnershipRecord) -> OwnershipRecord
     ensures { result ≡ lowered orec }
 {
     OwnershipRecord {
-        mode: if orec.readers <= 1 { Mode::Free } else { Mode::Read },
+        mode: if orec.readers <= 1 {
+            Mode::Free
+        } else {
+            Mode::Read
+        },
         readers: orec.readers.saturating_sub(1),
         ..orec
     }
@@ -52,7 +54,11 @@ fn freed(orec: OwnershipRecord) -> OwnershipRecord
 fn unread(orec: OwnershipRecord, snapshot: Option<Seen>) -> OwnershipRecord
     ensures { result ≡ unread snapshot orec }
 {
-    if reads_it(orec, snapshot) { lowered(orec) } else { orec }
+    if reads_it(orec, snapshot) {
+        lowered(orec)
+    } else {
+        orec
+    }
 }
 
 fn released(

@@ -1,5 +1,7 @@
 // The control state of a memory.
 ghost use Rattle.rules.specs.Sound.{SoundState};
+ghost use Rattle.std.specs.Prelude.{◌≡◌};
+ghost use Rattle.memory.specs.Descriptor.{aborted};
 ghost use Rattle.memory.specs.State.{state_of};
 
 use crate::descriptor::Descriptor;
@@ -15,10 +17,17 @@ pub struct State {
     ghost sound: { ∥ SoundState (state_of records descriptors begins) ∥₁ },
 }
 
+fn abort(descriptor: &mut Descriptor)
+    ensures { descriptor.new ≡ aborted descriptor.old }
+{
+    descriptor.status = Status::Aborted;
+}
+
 impl State {
-    ghost use Rattle.std.specs.Prelude.{◌≡◌, ◌<◌};
+    ghost use Rattle.std.specs.Prelude.{◌<◌};
     ghost use Rattle.rules.specs.Cancel.{cancelling};
-    ghost use Rattle.rules.specs.Changes.{ended_by};
+    ghost use Rattle.rules.specs.Changes.{aborted_by, ended_by};
+    ghost use Rattle.rules.specs.declared.descriptor.Status.TheVariants.{Active};
     ghost use Rattle.rules.specs.Begin.{beginning};
     ghost use Rattle.memory.specs.Control.{control};
 
@@ -27,8 +36,20 @@ impl State {
         ensures { control self.new ≡ ended_by thread (control self.old) }
     {
         let version = self.descriptors[thread as usize].version;
-        release(&mut self.records, &self.descriptors[thread as usize], thread);
+        release(
+            &mut self.records,
+            &self.descriptors[thread as usize],
+            thread,
+        );
         self.descriptors[thread as usize] = Descriptor::idle(version);
+    }
+
+    fn abort(&mut self, thread: u8)
+        requires thread { thread < 16 }
+        requires active { ((control self.old).descriptors thread).status ≡ Active }
+        ensures { control self.new ≡ aborted_by thread (control self.old) }
+    {
+        abort(&mut self.descriptors[thread as usize]);
     }
 
     pub fn cancel(&mut self, thread: u8) -> Result<u8, Decline>

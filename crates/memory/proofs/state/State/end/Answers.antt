@@ -17,7 +17,7 @@ invariant_of-self c =
       sound =
           subst (λ ds. ∥ SoundState (state_of c.release.new.records (slice_set ds t c.idle.result) s.begins) ∥₁) (sym (set-get_or s.descriptors t idle_raw))
           (subst (λ d. ∥ SoundState (state_of c.release.new.records (slice_set s.descriptors t d) s.begins) ∥₁) (sym c.idle.ensures)
-          (ended_sound s.records c.release.new.records s.descriptors s.begins t l c.requires c.release.ensures s.sound));
+          (ended_sound s.records c.release.new.records s.descriptors s.begins t l c.release.ensures c.requires s.sound));
     }
 
 pub returns : goal.returns
