@@ -1,6 +1,7 @@
 // A thread's software transaction, as the memory keeps it.
 ghost use Rattle.std.specs.Prelude.{◌≡◌, ◌<◌};
-ghost use Rattle.memory.specs.Descriptor.{begun, idle_at};
+ghost use Rattle.rules.specs.ReadSet.{size};
+ghost use Rattle.memory.specs.Descriptor.{begun, descriptor_of, idle_at};
 
 use policy::priority::Priority;
 use rules::descriptor::{Seen, Status};
@@ -18,6 +19,19 @@ pub struct Descriptor {
 }
 
 impl Descriptor {
+    // How many snapshots there are.
+    pub fn reads_held(&self) -> usize
+        ensures { result ≡ size (descriptor_of self.now).reads }
+    {
+        let mut held = 0;
+        for snapshot in &self.reads {
+            if snapshot.is_some() {
+                held += 1;
+            }
+        }
+        held
+    }
+
     pub fn idle(version: u32) -> Descriptor
         ensures { result ≡ idle_at version }
     {

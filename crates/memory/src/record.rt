@@ -1,6 +1,6 @@
 // What a transaction has of an ownership record, and what is left of it when it gives it up.
 ghost use Rattle.std.specs.Prelude.{◌≡◌, cond};
-ghost use Rattle.rules.specs.ReadSet.{reads_it};
+ghost use Rattle.rules.specs.ReadSet.{current, reads_it, valid};
 ghost use Rattle.rules.specs.Release.{freed, lowered, released, unread};
 ghost use Rattle.rules.specs.State.{owns_to_write};
 ghost use Rattle.memory.specs.Descriptor.{descriptor_of};
@@ -83,4 +83,22 @@ pub fn release(records: &mut [OwnershipRecord; 64], descriptor: &Descriptor, thr
     for (r, orec) in records.iter_mut().enumerate() {
         *orec = released(*orec, descriptor.reads[r], thread, descriptor.version);
     }
+}
+
+fn current(orec: OwnershipRecord, snapshot: Option<Seen>) -> bool
+    ensures { result ≡ current orec snapshot }
+{
+    snapshot.is_none() || reads_it(orec, snapshot)
+}
+
+// Every snapshot is valid.
+pub fn valid(records: &[OwnershipRecord; 64], descriptor: &Descriptor) -> bool
+    ensures { result ≡ valid (orecs_of records.now) (descriptor_of descriptor.now).reads }
+{
+    for (r, orec) in records.iter().enumerate() {
+        if !current(*orec, descriptor.reads[r]) {
+            return false;
+        }
+    }
+    true
 }
