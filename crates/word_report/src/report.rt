@@ -16,12 +16,20 @@ fn room_for(bytes: &[u8]) -> usize
     (bytes.len() / 8).min(MAX_WORDS)
 }
 
+// The counts are room for what the file holds, and for no more words than a file may have.
+fn report_with(heap: Global, bytes: &[u8], counts: &mut [Count]) -> Result<String, AllocError>
+    requires { length counts.old ≡ min (length bytes.now / 8) MAX_WORDS }
+    ensures { IfOk result (λ s. string_bytes s ≡ report_of bytes.now) }
+{
+    match load(bytes, counts) {
+        Ok(()) => Words { counts }.to_string(heap),
+        Err(decline) => DeclinedLine(decline).to_string(heap),
+    }
+}
+
 pub fn report(heap: Global, bytes: &[u8]) -> Result<String, AllocError>
     ensures { IfOk result (λ s. string_bytes s ≡ report_of bytes.now) }
 {
     let mut counts = vec![in heap; Count::new(0).unwrap(); room_for(bytes)]?;
-    match load(bytes, &mut counts) {
-        Ok(()) => Words { counts: &counts }.to_string(heap),
-        Err(decline) => DeclinedLine(decline).to_string(heap),
-    }
+    report_with(heap, bytes, &mut counts)
 }

@@ -68,6 +68,11 @@ impl Stock for Count {
     }
 
     fn decode(code: u64) -> Option<Count> {
-        u32::try_from(code).ok().and_then(Count::new)
+        // A test and a cast: by `u32::try_from` loading a file of counts took four times as long.
+        if code <= u64::from(MAX) {
+            Count::new(code as u32)
+        } else {
+            None
+        }
     }
 }
