@@ -3,7 +3,7 @@
 
 ghost use Rattle.std.specs.Prelude.{◌≡◌, ◌+◌, ◌*◌, ◌≤◌, length, Ok, None, position};
 ghost use Rattle.std.specs.List.{filter_map};
-ghost use Rattle.storage.specs.File.{value_of, is_bad, file_of, loaded, measured, stored_file, loaded_result, loaded_words};
+ghost use Rattle.storage.specs.File.{bytes_of, value_of, is_bad, file_of, loaded, measured, stored_file, loaded_result, loaded_words};
 
 use decline::Decline;
 use meaning::check::is_bad_count;
@@ -45,13 +45,21 @@ fn read_words<V: Stock + Copy>(codes: &[[u8; 8]], words: &mut [V])
     }
 }
 
+// A function of its own, for speed: its bytes are seen to be no word's, so many words are copied at once.
+fn write_code(bytes: &mut [u8], code: u64)
+    requires { length bytes.old ≡ 8 }
+    ensures { bytes.new ≡ bytes_of code }
+{
+    bytes.copy_from_slice(&code.to_le_bytes());
+}
+
 fn write_words<V: Stock + Copy>(words: &[V], file: &mut [u8])
     requires { length file.old ≡ 8 * length words.now }
     ensures { file.new ≡ file_of V.codes words.now }
 {
     // By range: nothing is known of the bytes after `as_chunks_mut`.
     for (i, word) in words.iter().enumerate() {
-        file[8 * i..8 * i + 8].copy_from_slice(&word.code().to_le_bytes());
+        write_code(&mut file[8 * i..8 * i + 8], word.code());
     }
 }
 
