@@ -79,7 +79,8 @@ pub fn load<V: Stock + Copy>(file: &[u8], words: &mut [V]) -> Result<(), Decline
     ensures words { words.new ≡ loaded_words V.decodes file.now words.old }
     ensures form { result ≡ Ok tt → file_of V.codes words.new ≡ file.now }
 {
-    check_lengths(words.len(), file.len())?;
+    let count = words.len();
+    check_lengths(count, file.len())?;
     let (codes, _) = file.as_chunks::<8>();
     if let Some(place) = first_bad::<V>(codes) {
         return Err(Decline::Malformed(place));
